@@ -1,0 +1,10 @@
+pub mod Path
+pub mod Grammar
+pub mod Errors
+pub mod State
+pub mod Rights
+pub mod Step
+pub mod Good
+pub mod Store
+pub mod Codes
+pub mod Poured

@@ -1,0 +1,113 @@
+ghost use Rattle.std.specs.Prelude.{◌≡◌, IfOk, IsTrue};
+ghost use Rattle.kp_model.specs.Grammar.{has_numbers, is_fitting};
+
+use crate::command::{Cmd, Op};
+use crate::items::Items;
+use crate::memory::{Duplicate, NoMemory};
+use crate::node::Acl;
+use crate::session::Origin;
+use crate::text::Text;
+use std::alloc::Global;
+
+/// What a log entry asks for.
+#[derive(Debug, Drop)]
+pub enum Body {
+    /// Changes nothing but the applied index, as every entry does.
+    Noop,
+    /// Gives out a session number.
+    OpenSession {
+        timeout: u32,
+        passwd: [u8; 16],
+        origin: Origin,
+    },
+    /// Takes a session over, by its password.
+    Attach {
+        session: u64,
+        passwd: [u8; 16],
+        origin: Origin,
+    },
+    /// Ends a session that wasn't heard.
+    Expire {
+        session: u64,
+    },
+    /// A command of a session in its epoch, with its running number.
+    Write {
+        session: u64,
+        epoch: u64,
+        seq: u64,
+        cmd: Cmd,
+    },
+}
+
+/// An element of the log. Its index, which is its zxid, is its place in the log, counted from 1.
+/// Its numbers are within their limits, and its texts, data and lists fit length fields of 32 bits.
+#[derive(Debug, Drop)]
+pub struct Entry {
+    /// The term of the leader that appended it.
+    pub term: u64,
+    /// The time at which it was appended, in milliseconds.
+    pub time: u64,
+    pub body: Body,
+    pub ghost numbers: { IsTrue (has_numbers term time body) },
+    pub ghost fits: { IsTrue (is_fitting body) },
+}
+
+impl Body {
+    /// An equal value with memory of its own.
+    pub fn copy(&self, alloc: Global) -> Result<Body, NoMemory>
+        ensures { IfOk result (λ made. made ≡ self.now) }
+    {
+        match self {
+            Body::Noop => Ok(Body::Noop),
+            Body::OpenSession {
+                timeout,
+                passwd,
+                origin,
+            } => Ok(Body::OpenSession {
+                timeout: *timeout,
+                passwd: *passwd,
+                origin: *origin,
+            }),
+            Body::Attach {
+                session,
+                passwd,
+                origin,
+            } => Ok(Body::Attach {
+                session: *session,
+                passwd: *passwd,
+                origin: *origin,
+            }),
+            Body::Expire { session } => Ok(Body::Expire { session: *session }),
+            Body::Write {
+                session,
+                epoch,
+                seq,
+                cmd,
+            } => Ok(Body::Write {
+                session: *session,
+                epoch: *epoch,
+                seq: *seq,
+                cmd: cmd.copy(alloc)?,
+            }),
+        }
+    }
+}
+
+impl Entry {
+    /// An equal value with memory of its own.
+    pub fn copy(&self, alloc: Global) -> Result<Entry, NoMemory>
+        ensures { IfOk result (λ made. made ≡ self.now) }
+    {
+        Ok(Entry {
+            term: self.term,
+            time: self.time,
+            body: self.body.copy(alloc)?,
+        })
+    }
+}
+
+impl Duplicate for Entry {
+    fn duplicate(&self, alloc: Global) -> Result<Entry, NoMemory> {
+        self.copy(alloc)
+    }
+}

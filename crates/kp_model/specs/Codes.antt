@@ -8,7 +8,7 @@ use Rattle.kp_model.specs.declared.session.Session.{Session}
 use Rattle.kp_model.specs.declared.session.Origin.{Origin}
 use Rattle.kp_model.specs.State.{State, Nodes, Sessions}
 use Rattle.kp_model.specs.Store.{Store}
-use Rattle.kp_model.specs.declared.entry.Entry.{Entry}
+use Rattle.kp_model.specs.LogEntry.{LogEntry}
 use Rattle.kp_model.specs.contracts.entry.Entry as entry
 
 abbrev pub bytes_code : Coded (List ℕ)
@@ -46,4 +46,4 @@ state_code = code_by (Nodes × (Sessions × (ℕ × ℕ))) (coded× nodes_code (
     (λ s. (s.nodes, (s.sessions, (s.next, s.applied)))) (λ p. record { nodes = p.0; sessions = p.1.0; next = p.1.1.0; applied = p.1.1.1 }) (λ _. refl)
 
 abbrev pub store_code : Coded Store
-store_code = code_by (State × List Entry) (coded× state_code (coded_list entry.the_row.coded)) (λ x. (x.state, x.unapplied)) (λ p. record { state = p.0; unapplied = p.1 }) (λ _. refl)
+store_code = code_by (State × List LogEntry) (coded× state_code (coded_list entry.the_row.coded)) (λ x. (x.state, x.unapplied)) (λ p. record { state = p.0; unapplied = p.1 }) (λ _. refl)

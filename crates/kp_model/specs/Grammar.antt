@@ -9,6 +9,7 @@ use Rattle.kp_model.specs.declared.command.Cmd.{Cmd}
 use Rattle.kp_model.specs.declared.command.Cmd.TheVariants as cmd
 use Rattle.kp_model.specs.declared.entry.Body.{Body}
 use Rattle.kp_model.specs.declared.entry.Body.TheVariants as body
+use Rattle.kp_model.specs.LogEntry.{LogEntry}
 
 -- indexes, terms, times, sessions, epochs and running numbers are at most 2 ^ 62
 abbrev pub is_number : ℕ → Bool
@@ -69,3 +70,7 @@ is_fitting (body.OpenSession timeout passwd origin) = true
 is_fitting (body.Attach session passwd origin) = true
 is_fitting (body.Expire session) = true
 is_fitting (body.Write session epoch seq c) = fits_cmd c
+
+-- an entry that can be written down
+abbrev pub is_entry : LogEntry → Bool
+is_entry e = has_numbers e.term e.time e.body && is_fitting e.body

@@ -1,4 +1,5 @@
 pub mod Path
+pub mod LogEntry
 pub mod Grammar
 pub mod Errors
 pub mod State

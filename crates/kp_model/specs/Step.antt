@@ -7,7 +7,7 @@ use Rattle.kp_model.specs.declared.node.Acl.{Acl}
 use Rattle.kp_model.specs.declared.node.Node.{Node}
 use Rattle.kp_model.specs.declared.session.Session.{Session}
 use Rattle.kp_model.specs.declared.session.Origin.{Origin}
-use Rattle.kp_model.specs.declared.entry.Entry.{Entry}
+use Rattle.kp_model.specs.LogEntry.{LogEntry}
 use Rattle.kp_model.specs.declared.entry.Body.{Body}
 use Rattle.kp_model.specs.declared.entry.Body.TheVariants as body
 use Rattle.kp_model.specs.declared.reply.Event.{Event}
@@ -185,5 +185,5 @@ take_body s i t (body.Expire session) = replies s reply.Stale
 take_body s i t (body.Write session epoch seq c) = written_by (map.get s.sessions session) s i t session epoch seq c
 
 -- an entry is taken at the index behind the applied one, which is applied then
-unfoldable pub apply : State → Entry → Outcome
+unfoldable pub apply : State → LogEntry → Outcome
 apply s e = take_body (record s { applied = s.applied + 1 }) (s.applied + 1) e.time e.body

@@ -1,5 +1,4 @@
-ghost use Rattle.std.specs.Prelude.{◌≡◌, IfOk, IsTrue};
-ghost use Rattle.kp_model.specs.Grammar.{has_numbers, is_fitting};
+ghost use Rattle.std.specs.Prelude.{◌≡◌, IfOk};
 
 use crate::command::{Cmd, Op};
 use crate::items::Items;
@@ -8,6 +7,7 @@ use crate::node::Acl;
 use crate::session::Origin;
 use crate::text::Text;
 use std::alloc::Global;
+use std::marker::Model;
 
 /// What a log entry asks for.
 #[derive(Debug, Drop)]
@@ -48,8 +48,19 @@ pub struct Entry {
     /// The time at which it was appended, in milliseconds.
     pub time: u64,
     pub body: Body,
-    pub ghost numbers: { IsTrue (has_numbers term time body) },
-    pub ghost fits: { IsTrue (is_fitting body) },
+}
+
+impl Model for Entry {
+    ghost use Rattle.std.specs.Prelude.{IsTrue};
+    ghost use Rattle.kp_model.specs.LogEntry.{LogEntry};
+
+    ghost Value = { LogEntry };
+
+    ghost use Rattle.kp_model.specs.Grammar.{is_entry};
+
+    ghost view = { λ e. record { term = e.term; time = e.time; body = e.body } };
+
+    ghost invariant = { λ e. IsTrue (is_entry (record { term = e.term; time = e.time; body = e.body })) };
 }
 
 impl Body {

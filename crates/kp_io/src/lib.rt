@@ -6,14 +6,24 @@
 
 mod disk;
 mod failed;
+mod faults;
 mod home;
+mod memory_disk;
+mod memory_sink;
 mod memory_source;
 mod sink;
 mod source;
+mod system;
 
 pub use disk::Disk;
 pub use failed::Failed;
 pub use home::{Four, Seven};
-pub use memory_source::MemorySource;
+pub use memory_disk::MemoryDisk;
+pub use memory_sink::{FaultySink, MemorySink};
+pub use memory_source::{FaultySource, MemorySource};
 pub use sink::Sink;
 pub use source::Source;
+pub use system::{ReaderSource, WriterSink};
+
+#[cfg(test)]
+mod tests;

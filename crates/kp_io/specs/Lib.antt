@@ -1,0 +1,4 @@
+pub mod Disks
+pub mod Faults
+pub mod Homes
+pub mod Memory

@@ -6,7 +6,7 @@ use Rattle.kp_model.specs.Step.{Outcome, unless, act, created, deleted, set, ope
 use Rattle.kp_model.specs.Store.{after}
 use Rattle.kp_model.specs.declared.session.Session.{Session}
 use Rattle.kp_model.specs.declared.session.Origin.{Origin}
-use Rattle.kp_model.specs.declared.entry.Entry.{Entry}
+use Rattle.kp_model.specs.LogEntry.{LogEntry}
 use Rattle.kp_model.specs.declared.entry.Body.{Body}
 use Rattle.kp_model.specs.declared.entry.Body.TheVariants as body
 use Rattle.kp_model.specs.declared.command.Cmd.{Cmd}
@@ -48,11 +48,11 @@ taken s i t (body.Attach session passwd origin) = refl
 taken s i t (body.Expire session) = refl
 taken s i t (body.Write session epoch seq c) = written _ s i t session epoch seq c
 
-pub applied-apply : (s : State) (e : Entry) → (apply s e).state.applied ≡ s.applied + 1
+pub applied-apply : (s : State) (e : LogEntry) → (apply s e).state.applied ≡ s.applied + 1
 unfolding apply
 applied-apply s e = taken _ _ _ e.body
 
-pub applied-after : (s : State) (es : List Entry) → (after s es).applied ≡ s.applied + length es
+pub applied-after : (s : State) (es : List LogEntry) → (after s es).applied ≡ s.applied + length es
 unfolding after
 applied-after s [] = omega arith
 applied-after s (e ∷ es) = applied-after (apply s e).state es ∙ omega (arith, applied-apply s e)

@@ -1,5 +1,5 @@
 -- States that a run can reach: a tree, sessions that are numbered, and numbers within their limits.
-use Rattle.std.specs.Prelude.{◌≡◌, ℕ, Bool, true, false, ◌+◌, ◌==◌, ◌≤◌, ◌<◌, IsTrue, IsSome, List, length, Option, Some}
+use Rattle.std.specs.Prelude.{◌≡◌, ℕ, false, ◌==◌, ◌≤◌, ◌<◌, IsTrue, IsSome, List, length, Some}
 use Rattle.std.specs.Str.{bytes_eq}
 use Rattle.std.specs.FinMap as map
 use Rattle.kp_model.specs.declared.node.Node.{Node}

@@ -1,5 +1,5 @@
 -- What stands in a log entry: numbers within their limits, and texts, data and lists that fit length fields of 32 bits.
-use Rattle.std.specs.Prelude.{ℕ, Bool, true, ◌&&◌, nat_le, List, length}
+use Rattle.std.specs.Prelude.{ℕ, Bool, true, ◌&&◌, ◌==◌, nat_le, List, length}
 use Rattle.std.specs.List.{list_all}
 use Rattle.kp_model.specs.declared.node.Acl.{Acl}
 use Rattle.kp_model.specs.declared.session.Origin.{Origin}
@@ -63,11 +63,11 @@ fits_cmd (cmd.Multi ops) = is_length (length ops) && list_all fits_op ops
 fits_cmd (cmd.Sync path) = is_text path
 fits_cmd cmd.CloseSession = true
 
--- each text, its data and each list fits its length field
+-- each text, its data and each list fits its length field, and a password has 16 bytes
 abbrev pub is_fitting : Body → Bool
 is_fitting body.Noop = true
-is_fitting (body.OpenSession timeout passwd origin) = true
-is_fitting (body.Attach session passwd origin) = true
+is_fitting (body.OpenSession timeout passwd origin) = length passwd == 16
+is_fitting (body.Attach session passwd origin) = length passwd == 16
 is_fitting (body.Expire session) = true
 is_fitting (body.Write session epoch seq c) = fits_cmd c
 

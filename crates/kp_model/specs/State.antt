@@ -1,5 +1,5 @@
 -- The tree with its sessions, and what is seen of it.
-use Rattle.std.specs.Prelude.{◌≡◌, ℕ, Bool, false, not, ◌&&◌, ◌+◌, ◌==◌, min, List, [], ◌∷◌, length, map, Option, refl}
+use Rattle.std.specs.Prelude.{ℕ, Bool, false, not, ◌&&◌, ◌==◌, min, List, [], ◌∷◌, length, map, Option}
 use Rattle.std.specs.List.{filter, list_any}
 use Rattle.std.specs.Option.{option_map, option_map_or}
 use Rattle.std.specs.Str.{bytes_eq}

@@ -1,5 +1,5 @@
 -- What one entry does: the state after it, its reply and its events.
-use Rattle.std.specs.Prelude.{◌≡◌, ℕ, ℤ, Bool, true, false, not, ◌&&◌, ◌||◌, ◌+◌, ◌^◌, ◌==◌, nat_le, List, [], ◌∷◌, length, Option, Some, None, is_some, if◌then◌else◌}
+use Rattle.std.specs.Prelude.{ℕ, ℤ, Bool, false, not, ◌&&◌, ◌||◌, ◌+◌, ◌==◌, nat_le, List, [], ◌∷◌, length, Option, Some, None, is_some, if◌then◌else◌}
 use Rattle.std.specs.Option.{option_map_or}
 use Rattle.std.specs.Str.{bytes_eq}
 use Rattle.std.specs.FinMap as map
@@ -18,7 +18,7 @@ use Rattle.kp_model.specs.declared.command.Cmd.{Cmd}
 use Rattle.kp_model.specs.declared.command.Cmd.TheVariants as cmd
 use Rattle.kp_model.specs.Errors.{bad_arguments, no_node, no_auth, bad_version, no_children_for_ephemerals, node_exists, not_empty, session_expired}
 use Rattle.kp_model.specs.Path.{root, parent, is_well_formed}
-use Rattle.kp_model.specs.State.{State, Nodes, Sessions, stat, children, is_held}
+use Rattle.kp_model.specs.State.{State, Nodes, stat, children, is_held}
 use Rattle.kp_model.specs.Rights as right
 use Rattle.kp_model.specs.Rights.{is_allowed}
 

@@ -1,0 +1,58 @@
+-- Each entry raises the applied index by one, whatever it is.
+use Rattle.std.proofs.Common.{◌≡◌, ℕ, ◌+◌, Bool, true, false, cond, List, [], ◌∷◌, length, Option, Some, None, refl, ◌∙◌, arith}
+use Rattle.std.specs.Prelude.{ℤ}
+use Rattle.kp_model.specs.State.{State}
+use Rattle.kp_model.specs.Step.{Outcome, unless, act, created, deleted, set, opened, written_by, take_body, apply}
+use Rattle.kp_model.specs.Store.{after}
+use Rattle.kp_model.specs.declared.session.Session.{Session}
+use Rattle.kp_model.specs.declared.session.Origin.{Origin}
+use Rattle.kp_model.specs.LogEntry.{LogEntry}
+use Rattle.kp_model.specs.declared.entry.Body.{Body}
+use Rattle.kp_model.specs.declared.entry.Body.TheVariants as body
+use Rattle.kp_model.specs.declared.command.Cmd.{Cmd}
+use Rattle.kp_model.specs.declared.command.Cmd.TheVariants as cmd
+
+-- of two outcomes that have the same applied index, either has it
+either : (b : Bool) (x y : Outcome) (n : ℕ) → x.state.applied ≡ n → y.state.applied ≡ n → (cond b x y).state.applied ≡ n
+either true x y n p q = p
+either false x y n p q = q
+
+-- an error changes nothing
+refused : (o : Option ℤ) (s : State) (x : Outcome) → x.state.applied ≡ s.applied → (unless o s x).state.applied ≡ s.applied
+refused None s x h = h
+refused (Some e) s x h = refl
+
+-- a command leaves the index alone
+acted : (s : State) (ids : List (List ℕ)) (i t : ℕ) (c : Cmd) → (act s ids i t c).state.applied ≡ s.applied
+unfolding act created deleted set
+acted s ids i t (cmd.Create path bytes acl flags stat) = refused _ s _ refl
+acted s ids i t (cmd.Delete path version) = refused _ s _ refl
+acted s ids i t (cmd.SetData path bytes version) = refused _ s _ refl
+acted s ids i t (cmd.Check path version) = refused _ s _ refl
+acted s ids i t _ = refl
+
+opens : (s : State) (timeout : ℕ) (passwd : List ℕ) (origin : Origin) → (opened s timeout passwd origin).state.applied ≡ s.applied
+unfolding opened
+opens s timeout passwd origin = either _ _ _ s.applied refl refl
+
+written : (o : Option Session) (s : State) (i t session epoch seq : ℕ) (c : Cmd) → (written_by o s i t session epoch seq c).state.applied ≡ s.applied
+written None s i t session epoch seq c = refl
+written (Some x) s i t session epoch seq c = either _ _ _ s.applied refl (acted _ _ _ _ c)
+
+-- a body leaves the index alone, which the entry has raised before
+taken : (s : State) (i t : ℕ) (b : Body) → (take_body s i t b).state.applied ≡ s.applied
+unfolding take_body
+taken s i t body.Noop = refl
+taken s i t (body.OpenSession timeout passwd origin) = opens s timeout passwd origin
+taken s i t (body.Attach session passwd origin) = refl
+taken s i t (body.Expire session) = refl
+taken s i t (body.Write session epoch seq c) = written _ s i t session epoch seq c
+
+pub applied-apply : (s : State) (e : LogEntry) → (apply s e).state.applied ≡ s.applied + 1
+unfolding apply
+applied-apply s e = taken _ _ _ e.body
+
+pub applied-after : (s : State) (es : List LogEntry) → (after s es).applied ≡ s.applied + length es
+unfolding after
+applied-after s [] = omega arith
+applied-after s (e ∷ es) = applied-after (apply s e).state es ∙ omega (arith, applied-apply s e)

@@ -6,6 +6,7 @@ mod command;
 mod entry;
 pub mod errors;
 mod items;
+pub mod laws;
 mod memory;
 mod node;
 mod read;

@@ -5,6 +5,7 @@
 mod command;
 mod entry;
 pub mod errors;
+mod fits;
 mod items;
 pub mod laws;
 mod memory;

@@ -1,5 +1,5 @@
 -- What is true of each value of a finite map stays true when one value is put in or taken out.
-use Rattle.std.proofs.Common.{◌≡◌, ℕ, ◌+◌, Bool, true, false, cond, ◌||◌, T, List, [], ◌∷◌, length, map, Option, Some, None, is_some, IsSome, filter, Ordering, Less, Equal, Greater, is_eq, refl, sym, ap, subst, ◌∙◌, true≢false, arith}
+use Rattle.std.proofs.Common.{◌≡◌, Bool, true, false, cond, ◌||◌, ◌⊎◌, inl, inr, T, List, [], ◌∷◌, length, map, Option, Some, None, is_some, IsSome, filter, Ordering, Less, Equal, Greater, is_eq, refl, sym, ap, subst, ◌∙◌, true≢false, arith}
 use Rattle.std.specs.List.{list_any}
 use Rattle.std.specs.Ordering.{eq_by_cmp}
 use Rattle.std.specs.Option.{unwrap_or}
@@ -58,9 +58,17 @@ failed : {K : Type 0} (b : Bool) (x : K) (xs : List K) → length (cond b (x ∷
 failed true x xs e = absurd (omega arith)
 failed false x xs e = (refl, e)
 
-none_of : (a b : Bool) → (a || b) ≡ false → (a ≡ false) × (b ≡ false)
+pub none_of : (a b : Bool) → (a || b) ≡ false → (a ≡ false) × (b ≡ false)
 none_of true b e = absurd (true≢false e)
 none_of false b e = (refl, e)
+
+new_or_old : {X : Type 0} (b : Bool) (v : X) (old : Option X) (x : X) → cond b (Some v) old ≡ Some x → (b ≡ true) × (x ≡ v) ⊎ (old ≡ Some x)
+new_or_old true v old x found = inl (refl, sym (same_value v x found))
+new_or_old false v old x found = inr found
+
+with_key : {A B C D : Type 0} → (A → C) → A × B ⊎ D → C × B ⊎ D
+with_key f (inl p) = inl (f p.0, p.1)
+with_key f (inr d) = inr d
 
 module _ {K X : Type 0} (R : K → K → Ordering) where
   no_found : (p : X → Bool) (es : List (K × X)) (q : K) (x : X)
@@ -87,6 +95,10 @@ module _ {K : Type 0} {R : K → K → Ordering} (same : IsAntisymmetric R) wher
 module _ {K X : Type 0} {R : K → K → Ordering} (o : IsTotalOrder R) (same : IsAntisymmetric R) where
   pub get_inserted : (m : FinMap R X) (k : K) (v : X) → fin.get (fin.insert m k v) k ≡ Some v
   get_inserted m k v = get-insert o m k v k ∙ ap (λ r. cond (is_eq r) (Some v) (fin.get m k)) (tied_itself o k)
+
+  -- what is found after an insertion is the new value at its key, or it was there
+  pub inserted_or_there : (m : FinMap R X) (k : K) (v : X) (q : K) (x : X) → fin.get (fin.insert m k v) q ≡ Some x → (q ≡ k) × (x ≡ v) ⊎ (fin.get m q ≡ Some x)
+  inserted_or_there m k v q x found = with_key (same_key same q k) (new_or_old (eq_by_cmp R q k) v (fin.get m q) x (sym (get-insert o m k v q) ∙ found))
 
   pub each_inserted : (P : K → X → Type 0) (m : FinMap R X) (k : K) (v : X) → P k v → Each P m → Each P (fin.insert m k v)
   each_inserted P m k v new keeps q x found =

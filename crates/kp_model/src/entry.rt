@@ -1,4 +1,5 @@
-ghost use Rattle.std.specs.Prelude.{◌≡◌, IfOk};
+ghost use Rattle.std.specs.Prelude.{◌≡◌, IfOk, IsTrue, is_ok};
+ghost use Rattle.kp_model.specs.Grammar.{has_numbers, is_fitting};
 
 use crate::command::{Cmd, Op};
 use crate::items::Items;
@@ -105,6 +106,19 @@ impl Body {
 }
 
 impl Entry {
+    /// An entry of this body. A body with a text, data or a list that is too long for its length field is none,
+    /// and the answer is that of want of memory, as for every other call that would write it down.
+    pub fn new(term: u64, time: u64, body: Body) -> Result<Entry, NoMemory>
+        requires { IsTrue (has_numbers term time body) }
+        ensures made { IfOk result (λ e. e ≡ record { term = term; time = time; body = body }) }
+        ensures ok { is_ok result ≡ is_fitting body }
+    {
+        if !body.fits() {
+            return Err(NoMemory);
+        }
+        Ok(Entry { term, time, body })
+    }
+
     /// An equal value with memory of its own.
     pub fn copy(&self, alloc: Global) -> Result<Entry, NoMemory>
         ensures { IfOk result (λ made. made ≡ self.now) }

@@ -5,7 +5,9 @@
 mod command;
 mod entry;
 pub mod errors;
+mod fits;
 mod items;
+pub mod laws;
 mod memory;
 mod node;
 mod read;

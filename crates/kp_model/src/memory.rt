@@ -2,7 +2,8 @@ ghost use Rattle.std.specs.Prelude.{◌≡◌, IfOk};
 
 use std::alloc::{AllocError, AllocFailed, Global};
 
-/// Memory ran out. Nothing else can make a call answer this, and what the call was made on is as it was.
+/// Memory ran out, or a text or a list is longer than its length field can tell. Nothing else can make a call
+/// answer this, and what the call was made on is as it was.
 #[derive(Clone, Copy, Debug, PartialEq, Eq)]
 pub struct NoMemory;
 

@@ -1,0 +1,29 @@
+//! Laws of the definitions. The contract of each function is a law; the function does nothing.
+ghost use Rattle.std.specs.Prelude.{◌≡◌, ◌<◌, ◌≤◌, ◌+◌, List, length, IsTrue};
+ghost use Rattle.std.specs.List.{list_all};
+ghost use Rattle.kp_model.specs.LogEntry.{LogEntry};
+ghost use Rattle.kp_model.specs.Grammar.{is_entry};
+ghost use Rattle.kp_model.specs.State.{State, empty};
+ghost use Rattle.kp_model.specs.Step.{apply};
+ghost use Rattle.kp_model.specs.Store.{after};
+ghost use Rattle.kp_model.specs.Good.{HasDistinctHolders, IsGood, IsSound};
+
+/// Each entry raises the applied index by one, also where its command fails, and so a replay raises it by the number
+/// of its entries.
+pub fn entries_raise_the_index()
+    ensures one { (s : State) (e : LogEntry) → (apply s e).state.applied ≡ s.applied + 1 }
+    ensures all { (s : State) (es : List LogEntry) → (after s es).applied ≡ s.applied + length es }
+{}
+
+/// Each entry that can be written down keeps a good state good and the holders of its sessions distinct, as long as
+/// its index stays within the limit.
+pub fn entries_keep_states_sound()
+    ensures good { (s : State) (e : LogEntry) → IsTrue (is_entry e) → s.applied < 4611686018427387904 → IsGood s → IsGood (apply s e).state }
+    ensures holders { (s : State) (e : LogEntry) → HasDistinctHolders s.sessions → HasDistinctHolders (apply s e).state.sessions }
+{}
+
+/// The empty state is sound, and so is what a replay makes of a sound state.
+pub fn replay_keeps_states_sound()
+    ensures empty { IsSound empty }
+    ensures after { (s : State) (es : List LogEntry) → IsTrue (list_all is_entry es) → s.applied + length es ≤ 4611686018427387904 → IsSound s → IsSound (after s es) }
+{}

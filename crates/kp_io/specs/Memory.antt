@@ -36,3 +36,8 @@ pub record Plate : Type 0 where
 -- a disk that holds nothing and has not failed
 abbrev pub blank_plate : Plate
 blank_plate = record { held = []; faults = 0 }
+
+-- an object of the system, and the count of the faults that it has had
+pub record Counted (A : Type 0) : Type 0 where
+  pub inner : A
+  pub faults : ℕ

@@ -1,4 +1,4 @@
-ghost use Rattle.std.specs.Prelude.{ℕ, List, Option, Some, ◌≡◌, ◌+◌, ◌-◌, ◌^◌, ◌≤◌, [], length, vec_len, take, drop, min, IsOk, IsOkAnd, OnOk, OnErr, IfOk, IfSome};
+ghost use Rattle.std.specs.Prelude.{ℕ, List, Option, Some, ◌≡◌, ◌+◌, ◌-◌, ◌^◌, ◌<◌, ◌≤◌, [], length, vec_len, take, drop, min, IsOk, IsOkAnd, OnOk, OnErr, IfOk, IfSome};
 ghost use Rattle.std.specs.Io.{ReadsAtMost};
 ghost use Rattle.std.specs.Io.KnownBytes.{Keeps};
 ghost use Rattle.kp_io.specs.Faults.{HasCause, one_more};
@@ -31,6 +31,7 @@ fn put_at(items: &mut Vec<u8>, at: usize, bytes: &[u8]) -> Result<(), AllocError
     requires end { at + length bytes.now ≤ 2 ^ 40 }
     ensures ok { OnOk result (items.new.items ≡ written_at at bytes.now items.old.items) }
     ensures err { OnErr result (items.new.items ≡ items.old.items) }
+    ensures grows { OnErr result (vec_len items.old < at + length bytes.now) }
 {
     let end = at + bytes.len();
     if end > items.len() {
@@ -95,6 +96,7 @@ impl Disk for MemoryDisk {
         requires end { at + length bytes.now ≤ 2 ^ 40 }
         ensures ok { OnOk result (self.new ≡ record self.old { held = written_at at bytes.now self.old.held }) }
         ensures err { OnErr result (self.new ≡ record self.old { faults = one_more self.old.faults }) }
+        ensures grows { OnErr result (length self.old.held < at + length bytes.now) }
         ensures moment { moments.new ≡ one_more moments.old }
     {
         *moments = raised(*moments);

@@ -1,4 +1,4 @@
-ghost use Rattle.std.specs.Prelude.{ℕ, List, Option, Some, ◌≡◌, ◌<◌, ◌↔◌, [], length, min, IsErr, IfOk, Contains};
+ghost use Rattle.std.specs.Prelude.{ℕ, List, Option, Some, ◌≡◌, ◌<◌, ◌↔◌, [], length, min, IsErr, IfOk, OnErr, Contains};
 ghost use Rattle.std.specs.Io.{WritesAtMost};
 ghost use Rattle.std.specs.Io.KnownBytes.{WriteAppends};
 ghost use Rattle.kp_io.specs.Faults.{HasCause, one_more};
@@ -73,12 +73,12 @@ impl Sink for MemorySink {
         ensures bytes { WriteAppends (Some self.old.held) (Some self.new.held) result bytes.now }
         ensures cause { HasCause self.old.faults self.new.faults result }
         ensures count { IfOk result (λ n. n ≡ min (length bytes.now) self.old.piece) }
+        ensures grows { OnErr result (0 < length bytes.now) }
         ensures piece { self.new.piece ≡ self.old.piece }
     {
         let count = bytes.len().min(self.piece);
         if self.bytes.extend_from_slice(&bytes[..count]).is_err() {
-            self.faults = raised(self.faults);
-            return Err(Failed);
+            return Err(self.fail());
         }
         Ok(count)
     }
@@ -139,6 +139,7 @@ impl Sink for FaultySink {
         ensures bytes { WriteAppends (Some self.old.held) (Some self.new.held) result bytes.now }
         ensures cause { HasCause self.old.faults self.new.faults result }
         ensures fails { Contains self.old.failing (one_more self.old.calls) → IsErr result }
+        ensures grows { IsErr result → bytes.now ≡ [] → Contains self.old.failing (one_more self.old.calls) }
         ensures count { IfOk result (λ n. n ≡ min (length bytes.now) self.old.piece) }
         ensures calls { self.new.calls ≡ one_more self.old.calls }
         ensures piece { self.new.piece ≡ self.old.piece }

@@ -1,0 +1,16 @@
+pub mod Majorities
+pub mod Prefixes
+pub mod Cases
+pub mod LastTerms
+pub mod Growth
+pub mod Invariant
+pub mod RaiseTerm
+pub mod Stand
+pub mod Vote
+pub mod Elect
+pub mod Write
+pub mod Follow
+pub mod Acknowledge
+pub mod Histories
+pub mod Safety
+pub mod Laws

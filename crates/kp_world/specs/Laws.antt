@@ -1,0 +1,70 @@
+-- The five properties of Raft (Ongaro's thesis "Consensus: Bridging Theory and Practice", figure 3.2), of every history of a cluster of any number of members.
+-- Where two moments are compared, `ms` is the history up to the earlier and `ms ++ later` up to the later one; with no `later` they are the same moment.
+use Rattle.std.specs.Prelude.{ℕ, suc, ◌≡◌, ◌<◌, ◌≤◌, nat_eq, List, ◌++◌, take, slice_get, Some}
+use mathlib.Core.List.{IsPrefix}
+use Rattle.kp_model.specs.declared.entry.Entry.{Entry}
+use Rattle.kp_world.specs.Majority.{IsMajority}
+use Rattle.kp_world.specs.Log.{BeginAlike}
+use Rattle.kp_world.specs.Book.{IsCommitted}
+use Rattle.kp_world.specs.Moves.{Move, IsHistory, book_of}
+
+-- no two candidates ever get the votes of a majority in one term
+abbrev pub OneWinner : Type 0
+OneWinner = (n : ℕ) (ms later : List Move) → IsHistory n (ms ++ later) → (t c d : ℕ) → 0 < c
+    → IsMajority n (λ k. nat_eq ((book_of ms).voted_for k t) c)
+    → IsMajority n (λ k. nat_eq ((book_of (ms ++ later)).voted_for k t) d)
+    → c ≡ d
+
+-- a leader has the votes of a majority, and is the only leader of its term for ever
+abbrev pub OneLeader : Type 0
+OneLeader = (n : ℕ) (ms later : List Move) → IsHistory n (ms ++ later) → (t : ℕ) → 0 < (book_of ms).leader t
+    → IsMajority n (λ k. nat_eq ((book_of ms).voted_for k t) ((book_of ms).leader t))
+    × ((book_of (ms ++ later)).leader t ≡ (book_of ms).leader t)
+
+-- what a leader had in its log stays in it
+abbrev pub LeaderAppendsOnly : Type 0
+LeaderAppendsOnly = (n : ℕ) (ms later : List Move) → IsHistory n (ms ++ later) → (t : ℕ)
+    → IsPrefix ((book_of ms).leader_log t) ((book_of (ms ++ later)).leader_log t)
+
+-- two logs with an entry of one term at one place are the same up to there, also at different moments
+abbrev pub LogsMatch : Type 0
+LogsMatch = (n : ℕ) (ms later : List Move) → IsHistory n (ms ++ later) → (j k i : ℕ) (e f : Entry)
+    → slice_get ((book_of ms).log j) i ≡ Some e
+    → slice_get ((book_of (ms ++ later)).log k) i ≡ Some f
+    → e.term ≡ f.term
+    → take (suc i) ((book_of ms).log j) ≡ take (suc i) ((book_of (ms ++ later)).log k)
+
+-- what is committed in a term stands in the log of the leader of each later term, whichever of the two came first
+abbrev pub LaterLeadersHaveIt : Type 0
+LaterLeadersHaveIt = (n : ℕ) (ms later : List Move) → IsHistory n (ms ++ later) → (t u : ℕ) (p : List Entry) → t < u
+    → IsCommitted n (book_of ms) t p
+    → 0 < (book_of (ms ++ later)).leader u
+    → IsPrefix p ((book_of (ms ++ later)).leader_log u)
+
+abbrev pub EarlierLeadersHaveIt : Type 0
+EarlierLeadersHaveIt = (n : ℕ) (ms later : List Move) → IsHistory n (ms ++ later) → (t u : ℕ) (p : List Entry) → t < u
+    → IsCommitted n (book_of (ms ++ later)) t p
+    → 0 < (book_of ms).leader u
+    → IsPrefix p ((book_of ms).leader_log u)
+
+-- of any two committed lists one begins the other
+abbrev pub CommittedBeginAlike : Type 0
+CommittedBeginAlike = (n : ℕ) (ms later : List Move) → IsHistory n (ms ++ later) → (t u : ℕ) (p q : List Entry)
+    → IsCommitted n (book_of ms) t p
+    → IsCommitted n (book_of (ms ++ later)) u q
+    → BeginAlike p q
+
+-- no two different entries are ever committed at one place
+abbrev pub OneEntryAPlace : Type 0
+OneEntryAPlace = (n : ℕ) (ms later : List Move) → IsHistory n (ms ++ later) → (t u i : ℕ) (p q : List Entry) (e f : Entry)
+    → IsCommitted n (book_of ms) t p
+    → IsCommitted n (book_of (ms ++ later)) u q
+    → slice_get p i ≡ Some e
+    → slice_get q i ≡ Some f
+    → e ≡ f
+
+-- what is committed stays so
+abbrev pub CommittedForGood : Type 0
+CommittedForGood = (n : ℕ) (ms later : List Move) → IsHistory n (ms ++ later) → (t : ℕ) (p : List Entry)
+    → IsCommitted n (book_of ms) t p
+    → IsCommitted n (book_of (ms ++ later)) t p

@@ -1,0 +1,5 @@
+pub mod Majority
+pub mod Log
+pub mod Book
+pub mod Moves
+pub mod Laws

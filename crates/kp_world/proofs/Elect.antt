@@ -1,9 +1,9 @@
 -- A candidate becomes the leader of its term.
-use Rattle.std.proofs.Common.{◌≡◌, ℕ, ◌<◌, ◌≤◌, true, refl, sym, arith, le_trans, ◌∙◌, List, [], ◌∷◌, length, subst, inl, inr, ⊎_elim}
+use Rattle.std.proofs.Common.{◌≡◌, ℕ, ◌<◌, ◌≤◌, true, refl, sym, arith, le_trans, ◌∙◌, List, [], length, subst, inr, ⊎_elim}
 use Rattle.std.specs.Prelude.{nat_eq}
 use Rattle.std.proofs.lemmas.Bool.Decides.{nat_tests}
 use mathlib.Core.List.{IsPrefix}
-use Rattle.kp_model.specs.declared.entry.Entry.{Entry}
+use Rattle.kp_model.specs.LogEntry.{LogEntry}
 use Rattle.kp_world.specs.Majority.{IsMajority}
 use Rattle.kp_world.specs.Log.{last_term, EndsInTerm}
 use Rattle.kp_world.specs.Book.{Book}
@@ -47,7 +47,7 @@ elect_grows n b t c i may = let free : b.leader t ≡ 0 = no_leader_yet n b t c 
 
 -- what may still be committed in an earlier term stands in the log that is elected:
 -- either all its voters left that term without p, and p is blocked, or one voter acknowledged p, and candidate_holds speaks of that voter
-pub elect_holds : (n : ℕ) (b : Book) (t c s : ℕ) (p : List Entry) → Invariant n b → MayElect n b t c → s < t → EndsInTerm (b.leader_log s) s p → Holds n b s p (b.candidate_log t c)
+pub elect_holds : (n : ℕ) (b : Book) (t c s : ℕ) (p : List LogEntry) → Invariant n b → MayElect n b t c → s < t → EndsInTerm (b.leader_log s) s p → Holds n b s p (b.candidate_log t c)
 elect_holds n b t c s p i may l own = ⊎_elim
     (λ (all : Covers n (λ k. nat_eq (b.voted_for k t) c) (has_left b s (length p))). inr (record { left = majority_covers n (λ k. nat_eq (b.voted_for k t) c) (has_left b s (length p)) all may.votes }))
     (λ (one : InFirst n (λ k. nat_eq (b.voted_for k t) c) (has_left b s (length p))).
@@ -64,7 +64,7 @@ elect_keeps n b t c i may =
     let d : Book = after_move b (Elect t c) in
     let g : Grows b d = elect_grows n b t c i may in
     -- the log that is elected has no entry of t
-    let old : (s : ℕ) (p : List Entry) → EndsInTerm (d.leader_log s) s p → EndsInTerm (b.leader_log s) s p = λ s p. set_at_cases (λ xs. EndsInTerm xs s p → EndsInTerm (b.leader_log s) s p) b.leader_log t (b.candidate_log t c) s
+    let old : (s : ℕ) (p : List LogEntry) → EndsInTerm (d.leader_log s) s p → EndsInTerm (b.leader_log s) s p = λ s p. set_at_cases (λ xs. EndsInTerm xs s p → EndsInTerm (b.leader_log s) s p) b.leader_log t (b.candidate_log t c) s
     (λ is own. absurd (omega (arith, i.candidate_log_terms t c p own.some own.within, own.ends, is)))
     (λ is own. own) in
     record {

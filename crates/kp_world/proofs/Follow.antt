@@ -1,7 +1,7 @@
 -- A member takes what it was sent of the log of its term's leader: a conflict is cut off, entries are appended, a snapshot is installed.
 use Rattle.std.proofs.Common.{◌≡◌, ℕ, ◌<◌, ◌≤◌, refl, arith, List, length, subst, inl, inr, ⊎_elim}
 use mathlib.Core.List.{IsPrefix}
-use Rattle.kp_model.specs.declared.entry.Entry.{Entry}
+use Rattle.kp_model.specs.LogEntry.{LogEntry}
 use Rattle.kp_world.specs.Log.{last_term, EndsInTerm}
 use Rattle.kp_world.specs.Book.{Book}
 use Rattle.kp_world.specs.Moves.{MayFollow, after_move, Follow}
@@ -10,7 +10,7 @@ use Rattle.kp_world.proofs.Cases.{set_at_cases}
 use Rattle.kp_world.proofs.Growth.{Grows}
 use Rattle.kp_world.proofs.Invariant.{Invariant, MatchesLeaders, IsBlocked, Holds, still_holds, matching_prefix}
 
-pub follow_grows : (b : Book) (k : ℕ) (xs : List Entry) → Grows b (after_move b (Follow k xs))
+pub follow_grows : (b : Book) (k : ℕ) (xs : List LogEntry) → Grows b (after_move b (Follow k xs))
 follow_grows b k xs = record {
   term = λ j. omega arith;
   voted_for = λ j u h. refl;
@@ -21,7 +21,7 @@ follow_grows b k xs = record {
 }
 
 -- what the member acknowledged and may still be committed it has, and so has its leader, so it stays
-follow_holds : (n : ℕ) (b : Book) (k s : ℕ) (xs p : List Entry) → Invariant n b → MayFollow b k xs → EndsInTerm (b.leader_log s) s p → length p ≤ b.acked k s → Holds n b s p xs
+follow_holds : (n : ℕ) (b : Book) (k s : ℕ) (xs p : List LogEntry) → Invariant n b → MayFollow b k xs → EndsInTerm (b.leader_log s) s p → length p ≤ b.acked k s → Holds n b s p xs
 follow_holds n b k s xs p i may own h =
     let past : s ≤ b.term k = i.acked_term k s (omega (arith, own.some)) in
     let there : Holds n b s p (b.leader_log (b.term k)) = ⊎_elim
@@ -36,7 +36,7 @@ follow_holds n b k s xs p i may own h =
     (λ (w : IsBlocked n b s (length p)). inr w)
     (i.log_holds k s p own h)
 
-pub follow_keeps : (n : ℕ) (b : Book) (k : ℕ) (xs : List Entry) → Invariant n b → MayFollow b k xs → Invariant n (after_move b (Follow k xs))
+pub follow_keeps : (n : ℕ) (b : Book) (k : ℕ) (xs : List LogEntry) → Invariant n b → MayFollow b k xs → Invariant n (after_move b (Follow k xs))
 follow_keeps n b k xs i may =
     let d : Book = after_move b (Follow k xs) in
     let g : Grows b d = follow_grows b k xs in

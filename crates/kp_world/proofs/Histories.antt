@@ -1,6 +1,5 @@
 -- Every history keeps the invariant, and its book grows.
 use Rattle.std.proofs.Common.{◌≡◌, ℕ, refl, sym, arith, List, [], ◌∷◌, ◌++◌, subst}
-use mathlib.Core.List.{IsPrefix}
 use Rattle.kp_world.specs.Book.{Book, empty_book}
 use Rattle.kp_world.specs.Moves.{Move, RaiseTerm, Stand, Vote, Elect, Write, Follow, Acknowledge, IsAllowed, AreAllowed, after_move, after_moves, book_of, IsHistory}
 use Rattle.kp_world.proofs.LastTerms.{empty_length, empty_last_term}

@@ -1,9 +1,8 @@
 -- The laws, of every history.
-use Rattle.std.proofs.Common.{refl}
 use Rattle.kp_world.specs.Moves.{book_of}
 use Rattle.kp_world.specs.Laws.{OneWinner, OneLeader, LeaderAppendsOnly, LogsMatch, LaterLeadersHaveIt, EarlierLeadersHaveIt, CommittedBeginAlike, OneEntryAPlace, CommittedForGood}
 use Rattle.std.proofs.Common.{arith, ◌++◌}
-use Rattle.kp_world.proofs.Histories.{Moments, moments}
+use Rattle.kp_world.proofs.Histories.{moments}
 use Rattle.kp_world.proofs.Safety.{winners_same, leader_has, leader_had, committed_grows, committed_alike, same_entry, logs_match}
 
 pub one_winner : OneWinner

@@ -14,3 +14,5 @@ pub mod Acknowledge
 pub mod Histories
 pub mod Safety
 pub mod Laws
+pub mod Runs
+pub mod Broken

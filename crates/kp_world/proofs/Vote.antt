@@ -1,7 +1,7 @@
 -- A member votes for a candidate of its term.
 use Rattle.std.proofs.Common.{◌≡◌, ℕ, ◌<◌, ◌≤◌, refl, arith, List, length, subst, inr, ⊎_elim}
 use mathlib.Core.List.{IsPrefix}
-use Rattle.kp_model.specs.declared.entry.Entry.{Entry}
+use Rattle.kp_model.specs.LogEntry.{LogEntry}
 use Rattle.kp_world.specs.Log.{EndsInTerm}
 use Rattle.kp_world.specs.Book.{Book}
 use Rattle.kp_world.specs.Moves.{MayVote, after_move, Vote}
@@ -26,7 +26,7 @@ vote_grows b k c may = record {
 }
 
 -- what the voter acknowledged in earlier terms it still has, and so the candidate had it
-vote_holds : (n : ℕ) (b : Book) (k c s : ℕ) (p : List Entry) → Invariant n b → MayVote b k c → EndsInTerm (b.leader_log s) s p → length p ≤ b.acked k s → Holds n b s p (b.candidate_log (b.term k) c)
+vote_holds : (n : ℕ) (b : Book) (k c s : ℕ) (p : List LogEntry) → Invariant n b → MayVote b k c → EndsInTerm (b.leader_log s) s p → length p ≤ b.acked k s → Holds n b s p (b.candidate_log (b.term k) c)
 vote_holds n b k c s p i may own h = ⊎_elim
     (λ (w : IsPrefix p (b.log k)). newer_holds n b s p (b.candidate_log (b.term k) c) (b.log k) i (i.candidate_log_matching (b.term k) c) (i.log_matching k) may.newer own w)
     (λ (w : IsBlocked n b s (length p)). inr w)

@@ -3,7 +3,7 @@ use Rattle.std.proofs.Common.{◌≡◌, ℕ, ◌<◌, ◌≤◌, refl, ap, arit
 use Rattle.std.specs.Prelude.{nat_eq}
 use Rattle.std.proofs.lemmas.Bool.Decides.{nat_tests}
 use mathlib.Core.List.{IsPrefix}
-use Rattle.kp_model.specs.declared.entry.Entry.{Entry}
+use Rattle.kp_model.specs.LogEntry.{LogEntry}
 use Rattle.kp_world.specs.Log.{last_term, EndsInTerm}
 use Rattle.kp_world.specs.Book.{Book}
 use Rattle.kp_world.specs.Moves.{MayWrite, after_move, Write}
@@ -14,7 +14,7 @@ use Rattle.kp_world.proofs.Cases.{set_at_cases}
 use Rattle.kp_world.proofs.Growth.{Grows}
 use Rattle.kp_world.proofs.Invariant.{Invariant, MatchesLeaders, IsBlocked, has_left, left_test, holds_grows, still_holds, matching_grows}
 
-pub write_grows : (b : Book) (t : ℕ) (e : Entry) → Grows b (after_move b (Write t e))
+pub write_grows : (b : Book) (t : ℕ) (e : LogEntry) → Grows b (after_move b (Write t e))
 write_grows b t e = record {
   term = λ j. omega arith;
   voted_for = λ j u h. refl;
@@ -35,9 +35,9 @@ later_leader_blocks n b t u m i l some more = record {
       (i.leader_votes u some);
 }
 
-pub write_keeps : (n : ℕ) (b : Book) (t : ℕ) (e : Entry) → Invariant n b → MayWrite b t e → Invariant n (after_move b (Write t e))
+pub write_keeps : (n : ℕ) (b : Book) (t : ℕ) (e : LogEntry) → Invariant n b → MayWrite b t e → Invariant n (after_move b (Write t e))
 write_keeps n b t e i may =
-    let ys : List Entry = b.leader_log t ++ e ∷ [] in
+    let ys : List LogEntry = b.leader_log t ++ e ∷ [] in
     let c : ℕ = b.leader t in
     let d : Book = after_move b (Write t e) in
     let g : Grows b d = write_grows b t e in
@@ -49,19 +49,19 @@ write_keeps n b t e i may =
     let at : last_term p ≡ t = ap last_term v ∙ (last_term_snoc (b.leader_log t) e ∙ may.own) in
     rw (at, here, v) (prefix_self ys))
     (prefix_snoc p (b.leader_log t) e w) in
-    let below : (p : List Entry) → IsPrefix p ys → last_term p ≤ t = λ p w. ⊎_elim
+    let below : (p : List LogEntry) → IsPrefix p ys → last_term p ≤ t = λ p w. ⊎_elim
     (λ (v : IsPrefix p (b.leader_log t)). i.leader_log_terms t p v)
     (λ (v : p ≡ ys). omega (arith, ap last_term v ∙ (last_term_snoc (b.leader_log t) e ∙ may.own)))
     (prefix_snoc p (b.leader_log t) e w) in
     -- what ends in its leader's term was there, or is the whole new log
-    let old : (s : ℕ) (p : List Entry) → EndsInTerm (d.leader_log s) s p → EndsInTerm (b.leader_log s) s p ⊎ ((s ≡ t) × (p ≡ ys)) = λ s p. set_at_cases (λ xs. EndsInTerm xs s p → EndsInTerm (b.leader_log s) s p ⊎ ((s ≡ t) × (p ≡ ys))) b.leader_log t ys s
+    let old : (s : ℕ) (p : List LogEntry) → EndsInTerm (d.leader_log s) s p → EndsInTerm (b.leader_log s) s p ⊎ ((s ≡ t) × (p ≡ ys)) = λ s p. set_at_cases (λ xs. EndsInTerm xs s p → EndsInTerm (b.leader_log s) s p ⊎ ((s ≡ t) × (p ≡ ys))) b.leader_log t ys s
     (λ is own. ⊎_elim
     (λ (v : IsPrefix p (b.leader_log t)). inl (record { within = rw is v; ends = own.ends; some = own.some }))
     (λ (v : p ≡ ys). inr (is, v))
     (prefix_snoc p (b.leader_log t) e own.within))
     (λ is own. inl own) in
     -- the whole new log is acknowledged by none
-    let unacked : (j s : ℕ) (p : List Entry) → s ≡ t → p ≡ ys → length p ≤ b.acked j s → ⊥ = λ j s p is v h.
+    let unacked : (j s : ℕ) (p : List LogEntry) → s ≡ t → p ≡ ys → length p ≤ b.acked j s → ⊥ = λ j s p is v h.
     omega (arith, i.acked_within j t, longer, ap (λ xs. length xs) v, subst (λ x. length p ≤ b.acked j x) is h) in
     record {
       voter_term = i.voter_term;

@@ -1,8 +1,8 @@
 -- The five properties of Raft (Ongaro's thesis "Consensus: Bridging Theory and Practice", figure 3.2), of every history of a cluster of any number of members.
 -- Where two moments are compared, `ms` is the history up to the earlier and `ms ++ later` up to the later one; with no `later` they are the same moment.
-use Rattle.std.specs.Prelude.{ℕ, suc, ◌≡◌, ◌<◌, ◌≤◌, nat_eq, List, ◌++◌, take, slice_get, Some}
+use Rattle.std.specs.Prelude.{ℕ, suc, ◌≡◌, ◌<◌, nat_eq, List, ◌++◌, take, slice_get, Some}
 use mathlib.Core.List.{IsPrefix}
-use Rattle.kp_model.specs.declared.entry.Entry.{Entry}
+use Rattle.kp_model.specs.LogEntry.{LogEntry}
 use Rattle.kp_world.specs.Majority.{IsMajority}
 use Rattle.kp_world.specs.Log.{BeginAlike}
 use Rattle.kp_world.specs.Book.{IsCommitted}
@@ -28,7 +28,7 @@ LeaderAppendsOnly = (n : ℕ) (ms later : List Move) → IsHistory n (ms ++ late
 
 -- two logs with an entry of one term at one place are the same up to there, also at different moments
 abbrev pub LogsMatch : Type 0
-LogsMatch = (n : ℕ) (ms later : List Move) → IsHistory n (ms ++ later) → (j k i : ℕ) (e f : Entry)
+LogsMatch = (n : ℕ) (ms later : List Move) → IsHistory n (ms ++ later) → (j k i : ℕ) (e f : LogEntry)
     → slice_get ((book_of ms).log j) i ≡ Some e
     → slice_get ((book_of (ms ++ later)).log k) i ≡ Some f
     → e.term ≡ f.term
@@ -36,27 +36,27 @@ LogsMatch = (n : ℕ) (ms later : List Move) → IsHistory n (ms ++ later) → (
 
 -- what is committed in a term stands in the log of the leader of each later term, whichever of the two came first
 abbrev pub LaterLeadersHaveIt : Type 0
-LaterLeadersHaveIt = (n : ℕ) (ms later : List Move) → IsHistory n (ms ++ later) → (t u : ℕ) (p : List Entry) → t < u
+LaterLeadersHaveIt = (n : ℕ) (ms later : List Move) → IsHistory n (ms ++ later) → (t u : ℕ) (p : List LogEntry) → t < u
     → IsCommitted n (book_of ms) t p
     → 0 < (book_of (ms ++ later)).leader u
     → IsPrefix p ((book_of (ms ++ later)).leader_log u)
 
 abbrev pub EarlierLeadersHaveIt : Type 0
-EarlierLeadersHaveIt = (n : ℕ) (ms later : List Move) → IsHistory n (ms ++ later) → (t u : ℕ) (p : List Entry) → t < u
+EarlierLeadersHaveIt = (n : ℕ) (ms later : List Move) → IsHistory n (ms ++ later) → (t u : ℕ) (p : List LogEntry) → t < u
     → IsCommitted n (book_of (ms ++ later)) t p
     → 0 < (book_of ms).leader u
     → IsPrefix p ((book_of ms).leader_log u)
 
 -- of any two committed lists one begins the other
 abbrev pub CommittedBeginAlike : Type 0
-CommittedBeginAlike = (n : ℕ) (ms later : List Move) → IsHistory n (ms ++ later) → (t u : ℕ) (p q : List Entry)
+CommittedBeginAlike = (n : ℕ) (ms later : List Move) → IsHistory n (ms ++ later) → (t u : ℕ) (p q : List LogEntry)
     → IsCommitted n (book_of ms) t p
     → IsCommitted n (book_of (ms ++ later)) u q
     → BeginAlike p q
 
 -- no two different entries are ever committed at one place
 abbrev pub OneEntryAPlace : Type 0
-OneEntryAPlace = (n : ℕ) (ms later : List Move) → IsHistory n (ms ++ later) → (t u i : ℕ) (p q : List Entry) (e f : Entry)
+OneEntryAPlace = (n : ℕ) (ms later : List Move) → IsHistory n (ms ++ later) → (t u i : ℕ) (p q : List LogEntry) (e f : LogEntry)
     → IsCommitted n (book_of ms) t p
     → IsCommitted n (book_of (ms ++ later)) u q
     → slice_get p i ≡ Some e
@@ -65,6 +65,6 @@ OneEntryAPlace = (n : ℕ) (ms later : List Move) → IsHistory n (ms ++ later) 
 
 -- what is committed stays so
 abbrev pub CommittedForGood : Type 0
-CommittedForGood = (n : ℕ) (ms later : List Move) → IsHistory n (ms ++ later) → (t : ℕ) (p : List Entry)
+CommittedForGood = (n : ℕ) (ms later : List Move) → IsHistory n (ms ++ later) → (t : ℕ) (p : List LogEntry)
     → IsCommitted n (book_of ms) t p
     → IsCommitted n (book_of (ms ++ later)) t p

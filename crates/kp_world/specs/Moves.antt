@@ -2,7 +2,7 @@
 -- Messages, snapshots, stops, starts and commits are no moves: they change nothing of the book.
 use Rattle.std.specs.Prelude.{ℕ, ◌≡◌, ◌<◌, ◌≤◌, ◌⊎◌, nat_eq, List, [], ◌∷◌, ◌++◌, length}
 use mathlib.Core.List.{IsPrefix}
-use Rattle.kp_model.specs.declared.entry.Entry.{Entry}
+use Rattle.kp_model.specs.LogEntry.{LogEntry}
 use Rattle.kp_world.specs.Majority.{IsMajority}
 use Rattle.kp_world.specs.Log.{IsUpToDate}
 use Rattle.kp_world.specs.Book.{Book, empty_book, set_at, set_at_both}
@@ -12,8 +12,8 @@ pub data Move : Type 0 where
   Stand : (c t : ℕ) → Move  -- c stands for election in the term t, with the log that it has, and votes for itself
   Vote : (k c : ℕ) → Move  -- k votes for c in k's term
   Elect : (t c : ℕ) → Move  -- c becomes the leader of the term t, with the log with which it stood
-  Write : (t : ℕ) → (e : Entry) → Move  -- the leader of t appends e to its log
-  Follow : (k : ℕ) → (xs : List Entry) → Move  -- k makes xs its log, as the leader of k's term has it
+  Write : (t : ℕ) → (e : LogEntry) → Move  -- the leader of t appends e to its log
+  Follow : (k : ℕ) → (xs : List LogEntry) → Move  -- k makes xs its log, as the leader of k's term has it
   Acknowledge : (k i : ℕ) → Move  -- k acknowledges the first i entries of the log of its term's leader
 
 -- the book after a move
@@ -49,23 +49,23 @@ pub record MayElect (n : ℕ) (b : Book) (t c : ℕ) : Type 0 where
   pub votes : IsMajority n (λ k. nat_eq (b.voted_for k t) c)
 
 -- a leader that is still in its term, and has the whole log of it, writes entries of its term
-pub record MayWrite (b : Book) (t : ℕ) (e : Entry) : Type 0 where
+pub record MayWrite (b : Book) (t : ℕ) (e : LogEntry) : Type 0 where
   pub leads : 0 < b.leader t
   pub now : b.term (b.leader t) ≡ t
   pub holds : b.log (b.leader t) ≡ b.leader_log t
   pub own : e.term ≡ t
 
 -- a member takes a beginning of its leader's log, and drops nothing in which its own log agrees with the leader's
-pub record MayFollow (b : Book) (k : ℕ) (xs : List Entry) : Type 0 where
+pub record MayFollow (b : Book) (k : ℕ) (xs : List LogEntry) : Type 0 where
   pub leads : 0 < b.leader (b.term k)
   pub within : IsPrefix xs (b.leader_log (b.term k))
-  pub keeps : (zs : List Entry) → IsPrefix zs (b.log k) → IsPrefix zs (b.leader_log (b.term k)) → IsPrefix zs xs
+  pub keeps : (zs : List LogEntry) → IsPrefix zs (b.log k) → IsPrefix zs (b.leader_log (b.term k)) → IsPrefix zs xs
 
 -- a member acknowledges what it has of its leader's log, and no less than before
 pub record MayAcknowledge (b : Book) (k i : ℕ) : Type 0 where
   pub more : b.acked k (b.term k) ≤ i
   pub within : i ≤ length (b.leader_log (b.term k))
-  pub has : (zs : List Entry) → IsPrefix zs (b.leader_log (b.term k)) → length zs ≤ i → IsPrefix zs (b.log k)
+  pub has : (zs : List LogEntry) → IsPrefix zs (b.leader_log (b.term k)) → length zs ≤ i → IsPrefix zs (b.log k)
 
 -- the move is allowed in a cluster of n members with the book b
 abbrev pub IsAllowed : ℕ → Book → Move → Type 0

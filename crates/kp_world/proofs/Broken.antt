@@ -6,11 +6,11 @@ use Rattle.kp_model.specs.LogEntry.{LogEntry}
 use Rattle.kp_world.specs.Majority.{IsMajority}
 use Rattle.kp_world.specs.Log.{BeginAlike}
 use Rattle.kp_world.specs.Book.{Book, IsCommitted, empty_book}
-use Rattle.kp_world.specs.Moves.{RaiseTerm, Stand, Vote, Elect, Write, Follow, Acknowledge, IsHistory, MayVote, MayFollow, book_of}
+use Rattle.kp_world.specs.Moves.{RaiseTerm, Stand, Vote, Elect, Write, Follow, Acknowledge, AreAllowed, IsHistory, MayVote, MayFollow, after_move, book_of}
 use Rattle.kp_world.specs.Runs.{one, two, write, commit}
-use Rattle.kp_world.specs.Broken.{four, old_entry, overwriting, TwoCommitted, laggard_stands, VotersCompareLogs, VotersVoteOnce, FollowersKeepAgreement, OldEntriesAreNotCounted}
+use Rattle.kp_world.specs.Broken.{four, old_entry, overwriting, takeover, TwoCommitted, laggard_stands, rivals, second_term, VotersCompareLogs, VotersVoteOnce, FollowersKeepAgreement, OldEntriesAreNotCounted}
 use Rattle.kp_world.proofs.Prefixes.{prefix_self, prefix_length}
-use Rattle.kp_world.proofs.Runs.{allowed_append, two_of_three, later_term, same_term, takes_all, has_all, write_allowed, commit_allowed}
+use Rattle.kp_world.proofs.Runs.{◌▸◌, allowed_append, two_of_three, later_term, same_term, takes_all, has_all, write_allowed, commit_allowed}
 
 -- lists that begin with entries of the terms 1 and 2 do not begin alike
 one_or_two : one ≡ two → ⊥
@@ -24,12 +24,10 @@ not_alike xs alike = ⊎_elim
 
 laggard_stands_allowed : IsHistory 3 laggard_stands
 laggard_stands_allowed = allowed_append 3 empty_book commit (Stand 3 2 ∷ RaiseTerm 1 2 ∷ []) commit_allowed (
-  record { above = omega arith; member = omega arith },
-  (
-    record { above = omega arith },
-    tt,
-  ),
-)
+    record { above = omega arith; member = omega arith }
+    ▸ record { above = omega arith }
+    ▸ tt
+    )
 
 laggard_is_refused : MayVote (book_of laggard_stands) 1 3 → ⊥
 laggard_is_refused may = ⊎_elim (λ (l : 1 < 0). absurd (omega arith)) (λ (e : (1 ≡ 0) × (1 ≤ 0)). absurd (omega (arith, e.1))) may.newer.newer
@@ -41,49 +39,37 @@ both_committed b first second most more = (
   not_alike [],
 )
 
+takeover_allowed : AreAllowed 3 (after_move (book_of laggard_stands) (Vote 1 3)) (takeover 1)
+takeover_allowed =
+    record { member = omega arith; new = λ e. absurd (omega (arith, e)); votes = two_of_three _ refl }
+    ▸ record { leads = omega arith; now = refl; holds = refl; own = refl }
+    ▸ has_all _ 3 1 (omega arith) (omega arith) refl
+    ▸ takes_all _ 1 (omega arith)
+    ▸ has_all _ 1 1 (omega arith) (omega arith) refl
+    ▸ tt
+
 pub voters_compare_logs : VotersCompareLogs
 voters_compare_logs = (
   laggard_stands_allowed,
   laggard_is_refused,
-  (
-    record { member = omega arith; new = λ e. absurd (omega (arith, e)); votes = two_of_three _ refl },
-    (
-      record { leads = omega arith; now = refl; holds = refl; own = refl },
-      (
-        has_all _ 3 1 (omega arith) (omega arith) refl,
-        (
-          takes_all _ 1 (omega arith),
-          (
-            has_all _ 1 1 (omega arith) (omega arith) refl,
-            tt,
-          ),
-        ),
-      ),
-    ),
-  ),
+  takeover_allowed,
   both_committed _ refl refl (two_of_three _ refl) (two_of_three _ refl),
 )
 
+rivals_allowed : IsHistory 3 rivals
+rivals_allowed =
+    record { above = omega arith; member = omega arith }
+    ▸ record { above = omega arith; member = omega arith }
+    ▸ record { above = omega arith }
+    ▸ record { member = omega arith; free = inl refl; reached = omega arith; newer = same_term [] [] refl (omega arith) }
+    ▸ record { member = omega arith; new = λ e. absurd (omega (arith, e)); votes = two_of_three _ refl }
+    ▸ tt
+
 pub voters_vote_once : VotersVoteOnce
 voters_vote_once = (
-  (
-    record { above = omega arith; member = omega arith },
-    (
-      record { above = omega arith; member = omega arith },
-      (
-        record { above = omega arith },
-        (
-          record { member = omega arith; free = inl refl; reached = omega arith; newer = same_term [] [] refl (omega arith) },
-          (
-            record { member = omega arith; new = λ e. absurd (omega (arith, e)); votes = two_of_three _ refl },
-            tt,
-          ),
-        ),
-      ),
-    ),
-  ),
+  rivals_allowed,
   λ may. ⊎_elim (λ (e : 1 ≡ 0). absurd (omega (arith, e))) (λ (e : 1 ≡ 3). absurd (omega (arith, e))) may.free,
-  (record { member = omega arith; new = λ e. absurd (omega (arith, e)); votes = two_of_three _ refl }, tt),
+  (record { member = omega arith; new = λ e. absurd (omega (arith, e)); votes = two_of_three _ refl } ▸ tt),
   refl,
   refl,
 )
@@ -92,103 +78,55 @@ voters_vote_once = (
 cut_is_refused : MayFollow (book_of commit) 2 [] → ⊥
 cut_is_refused may = absurd (omega (arith, prefix_length (one ∷ []) [] (may.keeps (one ∷ []) (prefix_self (one ∷ [])) (prefix_self (one ∷ [])))))
 
+second_term_allowed : AreAllowed 3 (after_move (book_of commit) (Follow 2 [])) second_term
+second_term_allowed =
+    record { above = omega arith; member = omega arith }
+    ▸ record { above = omega arith }
+    ▸ record { member = omega arith; free = inl refl; reached = omega arith; newer = same_term [] [] refl (omega arith) }
+    ▸ record { member = omega arith; new = λ e. absurd (omega (arith, e)); votes = two_of_three _ refl }
+    ▸ record { leads = omega arith; now = refl; holds = refl; own = refl }
+    ▸ has_all _ 3 1 (omega arith) (omega arith) refl
+    ▸ takes_all _ 2 (omega arith)
+    ▸ has_all _ 2 1 (omega arith) (omega arith) refl
+    ▸ tt
+
 pub followers_keep_agreement : FollowersKeepAgreement
 followers_keep_agreement = (
   commit_allowed,
   cut_is_refused,
-  (
-    record { above = omega arith; member = omega arith },
-    (
-      record { above = omega arith },
-      (
-        record { member = omega arith; free = inl refl; reached = omega arith; newer = same_term [] [] refl (omega arith) },
-        (
-          record { member = omega arith; new = λ e. absurd (omega (arith, e)); votes = two_of_three _ refl },
-          (
-            record { leads = omega arith; now = refl; holds = refl; own = refl },
-            (
-              has_all _ 3 1 (omega arith) (omega arith) refl,
-              (
-                takes_all _ 2 (omega arith),
-                (
-                  has_all _ 2 1 (omega arith) (omega arith) refl,
-                  tt,
-                ),
-              ),
-            ),
-          ),
-        ),
-      ),
-    ),
-  ),
+  second_term_allowed,
   both_committed _ refl refl (two_of_three _ refl) (two_of_three _ refl),
 )
 
 old_entry_allowed : IsHistory 3 old_entry
 old_entry_allowed = allowed_append 3 empty_book write (Stand 3 2 ∷ RaiseTerm 2 2 ∷ Vote 2 3 ∷ Elect 2 3 ∷ Write 2 two ∷ Stand 1 3 ∷ RaiseTerm 2 3 ∷ Vote 2 1 ∷ Elect 3 1 ∷ Acknowledge 1 1 ∷ Follow 2 (one ∷ []) ∷ Acknowledge 2 1 ∷ []) write_allowed (
-  record { above = omega arith; member = omega arith },
-  (
-    record { above = omega arith },
-    (
-      record { member = omega arith; free = inl refl; reached = omega arith; newer = same_term [] [] refl (omega arith) },
-      (
-        record { member = omega arith; new = λ e. absurd (omega (arith, e)); votes = two_of_three _ refl },
-        (
-          record { leads = omega arith; now = refl; holds = refl; own = refl },
-          (
-            record { above = omega arith; member = omega arith },
-            (
-              record { above = omega arith },
-              (
-                record { member = omega arith; free = inl refl; reached = omega arith; newer = later_term (one ∷ []) [] (omega arith) },
-                (
-                  record { member = omega arith; new = λ e. absurd (omega (arith, e)); votes = two_of_three _ refl },
-                  (
-                    has_all _ 1 1 (omega arith) (omega arith) refl,
-                    (
-                      takes_all _ 2 (omega arith),
-                      (
-                        has_all _ 2 1 (omega arith) (omega arith) refl,
-                        tt,
-                      ),
-                    ),
-                  ),
-                ),
-              ),
-            ),
-          ),
-        ),
-      ),
-    ),
-  ),
-)
+    record { above = omega arith; member = omega arith }
+    ▸ record { above = omega arith }
+    ▸ record { member = omega arith; free = inl refl; reached = omega arith; newer = same_term [] [] refl (omega arith) }
+    ▸ record { member = omega arith; new = λ e. absurd (omega (arith, e)); votes = two_of_three _ refl }
+    ▸ record { leads = omega arith; now = refl; holds = refl; own = refl }
+    ▸ record { above = omega arith; member = omega arith }
+    ▸ record { above = omega arith }
+    ▸ record { member = omega arith; free = inl refl; reached = omega arith; newer = later_term (one ∷ []) [] (omega arith) }
+    ▸ record { member = omega arith; new = λ e. absurd (omega (arith, e)); votes = two_of_three _ refl }
+    ▸ has_all _ 1 1 (omega arith) (omega arith) refl
+    ▸ takes_all _ 2 (omega arith)
+    ▸ has_all _ 2 1 (omega arith) (omega arith) refl
+    ▸ tt
+    )
 
 overwriting_allowed : IsHistory 3 overwriting
 overwriting_allowed = allowed_append 3 empty_book old_entry (Stand 3 4 ∷ RaiseTerm 2 4 ∷ Vote 2 3 ∷ Elect 4 3 ∷ Write 4 four ∷ Acknowledge 3 2 ∷ Follow 2 (two ∷ four ∷ []) ∷ Acknowledge 2 2 ∷ []) old_entry_allowed (
-  record { above = omega arith; member = omega arith },
-  (
-    record { above = omega arith },
-    (
-      record { member = omega arith; free = inl refl; reached = omega arith; newer = later_term (two ∷ []) (one ∷ []) (omega arith) },
-      (
-        record { member = omega arith; new = λ e. absurd (omega (arith, e)); votes = two_of_three _ refl },
-        (
-          record { leads = omega arith; now = refl; holds = refl; own = refl },
-          (
-            has_all _ 3 2 (omega arith) (omega arith) refl,
-            (
-              takes_all _ 2 (omega arith),
-              (
-                has_all _ 2 2 (omega arith) (omega arith) refl,
-                tt,
-              ),
-            ),
-          ),
-        ),
-      ),
-    ),
-  ),
-)
+    record { above = omega arith; member = omega arith }
+    ▸ record { above = omega arith }
+    ▸ record { member = omega arith; free = inl refl; reached = omega arith; newer = later_term (two ∷ []) (one ∷ []) (omega arith) }
+    ▸ record { member = omega arith; new = λ e. absurd (omega (arith, e)); votes = two_of_three _ refl }
+    ▸ record { leads = omega arith; now = refl; holds = refl; own = refl }
+    ▸ has_all _ 3 2 (omega arith) (omega arith) refl
+    ▸ takes_all _ 2 (omega arith)
+    ▸ has_all _ 2 2 (omega arith) (omega arith) refl
+    ▸ tt
+    )
 
 pub old_entries_are_not_counted : OldEntriesAreNotCounted
 old_entries_are_not_counted = (overwriting_allowed, prefix_self (one ∷ []), two_of_three _ refl, other_committed, not_alike (four ∷ []))

@@ -1,8 +1,10 @@
 -- The laws, of every history.
-use Rattle.kp_world.specs.Moves.{book_of}
-use Rattle.kp_world.specs.Laws.{OneWinner, OneLeader, LeaderAppendsOnly, LogsMatch, LaterLeadersHaveIt, EarlierLeadersHaveIt, CommittedBeginAlike, OneEntryAPlace, CommittedForGood}
-use Rattle.std.proofs.Common.{arith, ◌++◌}
-use Rattle.kp_world.proofs.Histories.{moments}
+use Rattle.kp_world.specs.Book.{Book, empty_book}
+use Rattle.kp_world.specs.Moves.{after_moves, book_of}
+use Rattle.kp_world.specs.Laws.{OneWinner, OneLeader, LeaderAppendsOnly, LeaderKeepsItsLog, LogsMatch, LaterLeadersHaveIt, EarlierLeadersHaveIt, CommittedBeginAlike, OneEntryAPlace, CommittedForGood}
+use Rattle.std.proofs.Common.{◌≡◌, ℕ, ◌++◌, refl, sym, subst, arith}
+use Rattle.kp_world.proofs.Histories.{moments, after_both, allowed_later}
+use Rattle.kp_world.proofs.LeadersLogs.{moves_leave}
 use Rattle.kp_world.proofs.Safety.{winners_same, leader_has, leader_had, committed_grows, committed_alike, same_entry, logs_match}
 
 pub one_winner : OneWinner
@@ -13,6 +15,12 @@ one_leader n ms later may t some = ((moments n ms later may).earlier.leader_vote
 
 pub leader_appends_only : LeaderAppendsOnly
 leader_appends_only n ms later may t = (moments n ms later may).since.leader_log t
+
+pub leader_keeps_its_log : LeaderKeepsItsLog
+leader_keeps_its_log n ms later may t leads same now =
+    let whole : book_of (ms ++ later) ≡ after_moves (book_of ms) later = after_both empty_book ms later in
+    let c : ℕ = (book_of ms).leader t in
+    subst (λ (d : Book). d.log c ≡ d.leader_log t) (sym whole) (moves_leave n (book_of ms) later t c (moments n ms later may).earlier (allowed_later n empty_book ms later may) leads refl same (subst (λ (d : Book). d.term c ≡ t) whole now))
 
 pub logs_match_law : LogsMatch
 logs_match_law n ms later may j k i e f at there is = logs_match n (book_of ms) (book_of (ms ++ later)) j k i e f (moments n ms later may) at there is

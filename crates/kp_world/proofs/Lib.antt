@@ -13,6 +13,7 @@ pub mod Follow
 pub mod Acknowledge
 pub mod Histories
 pub mod Safety
+pub mod LeadersLogs
 pub mod Laws
 pub mod Runs
 pub mod Broken

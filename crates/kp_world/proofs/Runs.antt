@@ -9,6 +9,11 @@ use Rattle.kp_world.specs.Moves.{Move, RaiseTerm, Stand, Vote, Elect, Write, Fol
 use Rattle.kp_world.specs.Runs.{one, two, election, write, commit, catch_up, deposition, ElectionHappens, WriteIsCommitted, MemberCatchesUp, WriteIsDropped}
 use Rattle.kp_world.proofs.Prefixes.{prefix_self}
 
+infixr 5 ◌▸◌
+-- a move is allowed, and so are those behind it
+abbrev pub ◌▸◌ : {A B : Type 0} → A → B → A × B
+a ▸ b = (a, b)
+
 pub allowed_append : (n : ℕ) (b : Book) (ms later : List Move) → AreAllowed n b ms → AreAllowed n (after_moves b ms) later → AreAllowed n b (ms ++ later)
 allowed_append n b [] later first then = then
 allowed_append n b (m ∷ ms) later first then = (first.0, allowed_append n (after_move b m) ms later first.1 then)
@@ -33,29 +38,23 @@ has_all b k i more within same = record { more = more; within = within; has = λ
 
 election_allowed : IsHistory 3 election
 election_allowed = (
-  record { above = omega arith; member = omega arith },
-  (
-    record { above = omega arith },
-    (
-      record { member = omega arith; free = inl refl; reached = omega arith; newer = same_term [] [] refl (omega arith) },
-      (
-        record { member = omega arith; new = λ e. absurd (omega (arith, e)); votes = two_of_three _ refl },
-        tt,
-      ),
-    ),
-  ),
-)
+    record { above = omega arith; member = omega arith }
+    ▸ record { above = omega arith }
+    ▸ record { member = omega arith; free = inl refl; reached = omega arith; newer = same_term [] [] refl (omega arith) }
+    ▸ record { member = omega arith; new = λ e. absurd (omega (arith, e)); votes = two_of_three _ refl }
+    ▸ tt
+    )
 
 pub election_happens : ElectionHappens
 election_happens = (election_allowed, refl)
 
 pub write_allowed : IsHistory 3 write
 write_allowed = allowed_append 3 empty_book election (Write 1 one ∷ []) election_allowed
-    (record { leads = omega arith; now = refl; holds = refl; own = refl }, tt)
+    (record { leads = omega arith; now = refl; holds = refl; own = refl } ▸ tt)
 
 pub commit_allowed : IsHistory 3 commit
 commit_allowed = allowed_append 3 empty_book write (Acknowledge 1 1 ∷ Follow 2 (one ∷ []) ∷ Acknowledge 2 1 ∷ []) write_allowed
-    (has_all (book_of write) 1 1 (omega arith) (omega arith) refl, (takes_all _ 2 (omega arith), (has_all _ 2 1 (omega arith) (omega arith) refl, tt)))
+    (has_all (book_of write) 1 1 (omega arith) (omega arith) refl ▸ takes_all _ 2 (omega arith) ▸ has_all _ 2 1 (omega arith) (omega arith) refl ▸ tt)
 
 pub write_is_committed : WriteIsCommitted
 write_is_committed = (commit_allowed, one_committed, refl)
@@ -65,48 +64,28 @@ write_is_committed = (commit_allowed, one_committed, refl)
 
 catch_up_allowed : IsHistory 3 catch_up
 catch_up_allowed = allowed_append 3 empty_book commit (RaiseTerm 3 1 ∷ Follow 3 (one ∷ []) ∷ Acknowledge 3 1 ∷ []) commit_allowed (
-  record { above = omega arith },
-  (
-    takes_all _ 3 (omega arith),
-    (
-      has_all _ 3 1 (omega arith) (omega arith) refl,
-      tt,
-    ),
-  ),
-)
+    record { above = omega arith }
+    ▸ takes_all _ 3 (omega arith)
+    ▸ has_all _ 3 1 (omega arith) (omega arith) refl
+    ▸ tt
+    )
 
 pub member_catches_up : MemberCatchesUp
 member_catches_up = (catch_up_allowed, refl)
 
 deposition_allowed : IsHistory 3 deposition
 deposition_allowed = allowed_append 3 empty_book write (Stand 2 2 ∷ RaiseTerm 3 2 ∷ Vote 3 2 ∷ Elect 2 2 ∷ Write 2 two ∷ Acknowledge 2 1 ∷ RaiseTerm 1 2 ∷ Follow 1 (two ∷ []) ∷ Acknowledge 1 1 ∷ []) write_allowed (
-  record { above = omega arith; member = omega arith },
-  (
-    record { above = omega arith },
-    (
-      record { member = omega arith; free = inl refl; reached = omega arith; newer = same_term [] [] refl (omega arith) },
-      (
-        record { member = omega arith; new = λ e. absurd (omega (arith, e)); votes = two_of_three _ refl },
-        (
-          record { leads = omega arith; now = refl; holds = refl; own = refl },
-          (
-            has_all _ 2 1 (omega arith) (omega arith) refl,
-            (
-              record { above = omega arith },
-              (
-                takes_all _ 1 (omega arith),
-                (
-                  has_all _ 1 1 (omega arith) (omega arith) refl,
-                  tt,
-                ),
-              ),
-            ),
-          ),
-        ),
-      ),
-    ),
-  ),
-)
+    record { above = omega arith; member = omega arith }
+    ▸ record { above = omega arith }
+    ▸ record { member = omega arith; free = inl refl; reached = omega arith; newer = same_term [] [] refl (omega arith) }
+    ▸ record { member = omega arith; new = λ e. absurd (omega (arith, e)); votes = two_of_three _ refl }
+    ▸ record { leads = omega arith; now = refl; holds = refl; own = refl }
+    ▸ has_all _ 2 1 (omega arith) (omega arith) refl
+    ▸ record { above = omega arith }
+    ▸ takes_all _ 1 (omega arith)
+    ▸ has_all _ 1 1 (omega arith) (omega arith) refl
+    ▸ tt
+    )
 
 pub write_is_dropped : WriteIsDropped
 write_is_dropped = (deposition_allowed, refl, refl, two_committed)

@@ -21,10 +21,17 @@ OneLeader = (n : ℕ) (ms later : List Move) → IsHistory n (ms ++ later) → (
     → IsMajority n (λ k. nat_eq ((book_of ms).voted_for k t) ((book_of ms).leader t))
     × ((book_of (ms ++ later)).leader t ≡ (book_of ms).leader t)
 
--- what a leader had in its log stays in it
+-- what the log of a term's leader had stays in it
 abbrev pub LeaderAppendsOnly : Type 0
 LeaderAppendsOnly = (n : ℕ) (ms later : List Move) → IsHistory n (ms ++ later) → (t : ℕ)
     → IsPrefix ((book_of ms).leader_log t) ((book_of (ms ++ later)).leader_log t)
+
+-- a leader that has the whole log of its term goes on having it as long as it stays in its term
+abbrev pub LeaderKeepsItsLog : Type 0
+LeaderKeepsItsLog = (n : ℕ) (ms later : List Move) → IsHistory n (ms ++ later) → (t : ℕ) → 0 < (book_of ms).leader t
+    → (book_of ms).log ((book_of ms).leader t) ≡ (book_of ms).leader_log t
+    → (book_of (ms ++ later)).term ((book_of ms).leader t) ≡ t
+    → (book_of (ms ++ later)).log ((book_of ms).leader t) ≡ (book_of (ms ++ later)).leader_log t
 
 -- two logs with an entry of one term at one place are the same up to there, also at different moments
 abbrev pub LogsMatch : Type 0
@@ -34,13 +41,14 @@ LogsMatch = (n : ℕ) (ms later : List Move) → IsHistory n (ms ++ later) → (
     → e.term ≡ f.term
     → take (suc i) ((book_of ms).log j) ≡ take (suc i) ((book_of (ms ++ later)).log k)
 
--- what is committed in a term stands in the log of the leader of each later term, whichever of the two came first
+-- what is committed in a term stands in the log of each leader of a later term that is there by then
 abbrev pub LaterLeadersHaveIt : Type 0
 LaterLeadersHaveIt = (n : ℕ) (ms later : List Move) → IsHistory n (ms ++ later) → (t u : ℕ) (p : List LogEntry) → t < u
     → IsCommitted n (book_of ms) t p
     → 0 < (book_of (ms ++ later)).leader u
     → IsPrefix p ((book_of (ms ++ later)).leader_log u)
 
+-- and stood in that of one that was there before it was committed
 abbrev pub EarlierLeadersHaveIt : Type 0
 EarlierLeadersHaveIt = (n : ℕ) (ms later : List Move) → IsHistory n (ms ++ later) → (t u : ℕ) (p : List LogEntry) → t < u
     → IsCommitted n (book_of (ms ++ later)) t p

@@ -12,6 +12,7 @@ ghost use Rattle.kp_world.specs.Laws.{
   OneWinner,
   OneLeader,
   LeaderAppendsOnly,
+  LeaderKeepsItsLog,
   LogsMatch,
   LaterLeadersHaveIt,
   EarlierLeadersHaveIt,
@@ -42,8 +43,12 @@ pub fn election_safety()
 {}
 
 /// Leader Append-Only (thesis, section 3.5): a leader never overwrites or deletes entries of its log.
+///
+/// `written`: what the log of a term's leader ever had stays in it. `own`: a leader that has that whole
+/// log itself goes on having it as long as it stays in its term.
 pub fn leader_append_only()
-    ensures { LeaderAppendsOnly }
+    ensures written { LeaderAppendsOnly }
+    ensures own { LeaderKeepsItsLog }
 {}
 
 /// Log Matching (thesis, section 3.5): two logs that have an entry of the same term at the same index
@@ -62,8 +67,8 @@ pub fn leader_completeness()
     ensures earlier { EarlierLeadersHaveIt }
 {}
 
-/// State Machine Safety (thesis, section 3.6.3): no two members ever apply different entries at one
-/// index, since members apply what is committed alone.
+/// State Machine Safety (thesis, section 3.6.3): members that apply nothing but what is committed never
+/// apply different entries at one index.
 ///
 /// `lists`: of two lists that were committed at any two moments one begins the other. `entries`: so
 /// they have the same entry at each index that both reach. `kept`: what is committed stays so.

@@ -1,0 +1,3 @@
+//! The tree and the sessions, part by part, under layers of writes, and its two views: the
+//! committed one and the latest one.
+#![tactic(auto)]

@@ -1,8 +1,7 @@
-ghost use Rattle.std.specs.Prelude.{ℕ, List, Option, Some, ◌≡◌, ◌+◌, ◌-◌, ◌^◌, ◌<◌, ◌≤◌, [], length, vec_len, take, drop, min, IsOk, IsOkAnd, OnOk, OnErr, IfOk, IfSome};
+ghost use Rattle.std.specs.Prelude.{Some, ◌≡◌, ◌+◌, ◌-◌, ◌^◌, ◌<◌, ◌≤◌, [], length, vec_len, take, drop, min, IsOk, IsOkAnd, OnOk, OnErr, IfOk};
 ghost use Rattle.std.specs.Io.{ReadsAtMost};
-ghost use Rattle.std.specs.Io.KnownBytes.{Keeps};
-ghost use Rattle.kp_io.specs.Faults.{HasCause, one_more};
-ghost use Rattle.kp_io.specs.Disks.{TellsLength, ReadsAt, Becomes, written_at, cut_to};
+ghost use Rattle.kp_io.specs.Faults.{one_more};
+ghost use Rattle.kp_io.specs.Disks.{ReadsAt, written_at, cut_to};
 ghost use Rattle.kp_io.specs.Memory.{Plate};
 
 use crate::faults::raised;

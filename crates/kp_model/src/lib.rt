@@ -13,6 +13,8 @@ mod node;
 mod read;
 mod reply;
 mod session;
+#[cfg(test)]
+mod tests;
 mod text;
 mod view;
 

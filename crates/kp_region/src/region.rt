@@ -1,6 +1,6 @@
 //! The region.
 
-ghost use Rattle.std.specs.Prelude.{◌≡◌, ℕ, ◌+◌, ◌^◌, ◌<◌, ◌≤◌, ◌↔◌, length, max, option_map, slice_get, IsTrue, OnOk, OnErr};
+ghost use Rattle.std.specs.Prelude.{◌≡◌, ℕ, ◌+◌, ◌^◌, ◌<◌, ◌≤◌, ◌↔◌, length, max, option_map, slice_get, IsTrue, IsOk, OnOk, OnErr};
 ghost use Rattle.kp_region.specs.Marked.{no_strings, next_mark, string_at, with_string, without_first, without_last};
 
 use crate::memory::NoMemory;
@@ -75,13 +75,14 @@ impl Region {
     }
 
     /// Makes room for at least `records` strings of together at least `bytes` bytes. A number that is
-    /// below the room there is leaves that room. Answers `NoMemory`, and changes nothing, where memory
+    /// below the room there is leaves that room, and where both are, the answer is Ok. Answers `NoMemory`, and changes nothing, where memory
     /// runs out, or where the last mark and the spare records together, or the bytes ever pushed and
     /// the spare bytes together, would pass 2^62.
     pub fn reserve(&mut self, records: usize, bytes: usize) -> Result<(), NoMemory>
         ensures ok { OnOk result (self.new ≡ record self.old { spare_records = max self.old.spare_records records; spare_bytes = max self.old.spare_bytes bytes }) }
         ensures marks { OnOk result (next_mark self.new + self.new.spare_records ≤ 2 ^ 62 + 1) }
         ensures err { OnErr result (self.new ≡ self.old) }
+        ensures met { records ≤ self.old.spare_records → bytes ≤ self.old.spare_bytes → IsOk result }
     {
         let records = self.spare_records.max(records);
         let bytes = self.spare_bytes.max(bytes);

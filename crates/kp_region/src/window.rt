@@ -1,6 +1,6 @@
 //! A window on a stream of bytes: bytes are added at its end and leave at both ends.
 
-ghost use Rattle.std.specs.Prelude.{◌≡◌, ◌+◌, ◌-◌, ◌*◌, ◌^◌, ◌≤◌, [], ◌++◌, length, take, drop, max, OnOk, OnErr};
+ghost use Rattle.std.specs.Prelude.{◌≡◌, ◌+◌, ◌-◌, ◌*◌, ◌^◌, ◌<◌, ◌≤◌, [], ◌++◌, length, take, drop, max, OnOk, OnErr};
 ghost use Rattle.std.specs.Vec.{vec_len, vec_capacity};
 ghost use Rattle.kp_region.specs.Stretch.{end_of};
 
@@ -58,6 +58,7 @@ impl Window {
         ensures bytes { self.new.bytes ≡ self.old.bytes }
         ensures room { self.old.room ≤ self.new.room }
         ensures ok { OnOk result (extra ≤ self.new.room) }
+        ensures full { OnErr result (self.old.room < extra) }
     {
         if extra <= self.buffer.capacity() - self.buffer.len() {
             return Ok(());

@@ -1,7 +1,9 @@
 use Rattle.kp_jute.proofs.Numbers.{ints_lawful, longs_lawful, booleans_lawful}
 use Rattle.kp_jute.proofs.Combined.{both_lawful}
 use Rattle.kp_jute.proofs.Lengths.{counts_lawful, buffers_lawful, texts_lawful, vectors_lawful}
-use Rattle.kp_jute.specs.Jute.{ints, texts}
+use Rattle.kp_jute.proofs.EndMarks.{untils_lawful}
+use Rattle.kp_jute.specs.Jute.{ints, texts, counts, number}
+use Rattle.std.proofs.Common.{arith}
 use Rattle.kp_jute.proofs.promises.laws.Goals as goal
 
 pub returns-clause-int : goal.returns-clause-int
@@ -27,3 +29,7 @@ returns-clause-vector c = vectors_lawful texts texts_lawful
 
 pub returns-clause-fields : goal.returns-clause-fields
 returns-clause-fields c = both_lawful ints texts ints_lawful texts_lawful
+
+pub returns-clause-marked : goal.returns-clause-marked
+unfolding number
+returns-clause-marked c = untils_lawful counts (λ a. omega arith) counts_lawful

@@ -1,0 +1,5 @@
+pub mod Combined
+pub mod EndMarks
+pub mod Lengths
+pub mod Numbers
+pub mod Utf8

@@ -1,0 +1,16 @@
+//! Jute, the record format of ZooKeeper's protocol: its primitives, read and written.
+#![tactic(auto)]
+
+mod fault;
+mod memory;
+mod promises;
+mod reader;
+#[cfg(test)]
+mod tests;
+mod writer;
+
+pub use fault::JuteFail;
+pub use memory::NoMemory;
+pub use promises::laws;
+pub use reader::Reader;
+pub use writer::Writer;

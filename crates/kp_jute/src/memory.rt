@@ -1,0 +1,13 @@
+//! The one way in which a writer refuses a call.
+
+use std::alloc::AllocError;
+
+/// Memory ran out, or the value has no spelling, since its length doesn't fit the length field.
+#[derive(Clone, Copy, Debug, PartialEq, Eq)]
+pub struct NoMemory;
+
+impl From<AllocError> for NoMemory {
+    fn from(_e: AllocError) -> NoMemory {
+        NoMemory
+    }
+}

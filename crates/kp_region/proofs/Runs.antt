@@ -1,0 +1,73 @@
+-- Runs of spans: where each lies, and what stays of its bytes when the window changes.
+use Rattle.std.proofs.Common.{◌≡◌, ℕ, zero, suc, ◌+◌, ◌-◌, ◌≤◌, ◌<◌, List, [], ◌∷◌, ◌++◌, length, take, drop, map, refl, sym, ◌∙◌, ap, subst, arith, Option, Some, None, slice_get}
+use Rattle.std.proofs.lemmas.List.{drop-drop, drop-take, take-append-le}
+use Rattle.std.proofs.Math.Seq.{take-append_seam, take-take, drop-append_seam, take-length}
+use Rattle.kp_region.specs.declared.region.Span.{Span}
+use Rattle.kp_region.specs.Spans.{bytes_of, IsRun}
+
+pub run_le : (a : ℕ) (ss : List Span) (e : ℕ) → IsRun a ss e → a ≤ e
+run_le a [] e h = omega (arith, h)
+run_le a (s ∷ ss) e h = let on : a + s.len ≤ e = run_le (a + s.len) ss e h.1 in omega (arith, on)
+
+-- a span at the end
+pub run_push : (a : ℕ) (ss : List Span) (e : ℕ) (s : Span) → s.start ≡ e → IsRun a ss e → IsRun a (ss ++ s ∷ []) (e + s.len)
+run_push a [] e s p h = (p ∙ sym h, ap (λ x. x + s.len) h)
+run_push a (t ∷ ss) e s p h = (h.0, run_push (a + t.len) ss e s p h.1)
+
+-- without the span at the end
+pub run_cut : (a : ℕ) (ss : List Span) (e : ℕ) (s : Span) → IsRun a (ss ++ s ∷ []) e → IsRun a ss s.start × (s.start + s.len ≡ e)
+run_cut a [] e s h = (sym h.0, ap (λ x. x + s.len) h.0 ∙ h.1)
+run_cut a (t ∷ ss) e s h = let r = run_cut (a + t.len) ss e s h.1 in ((h.0, r.0), r.1)
+
+-- each span lies between the ends
+pub run_at : (a : ℕ) (ss : List Span) (e i : ℕ) (s : Span) → IsRun a ss e → slice_get ss i ≡ Some s → (a ≤ s.start) × (s.start + s.len ≤ e)
+run_at a [] e i s h g = absurd (cc g)
+run_at a (t ∷ ss) e zero s h g =
+    let same : t ≡ s = cc g in
+    let on : a + t.len ≤ e = run_le (a + t.len) ss e h.1 in
+    let at : t.start ≡ a = h.0 in
+    let here : (a ≤ t.start) × (t.start + t.len ≤ e) = (omega (arith, at), omega (arith, at, on)) in
+    subst (λ (x : Span). (a ≤ x.start) × (x.start + x.len ≤ e)) same here
+run_at a (t ∷ ss) e (suc i) s h g = let r = run_at (a + t.len) ss e i s h.1 g in (omega (arith, r.0), r.1)
+
+-- the bytes of a span in a window that is cut behind it
+part_of_take : (p n k : ℕ) (bytes : List ℕ) → p + n ≤ k → take n (drop p (take k bytes)) ≡ take n (drop p bytes)
+part_of_take p n k bytes le =
+    let e : k ≡ p + (k - p) = omega (arith, le) in
+    let fits : n ≤ k - p = omega (arith, le) in
+    ap (λ m. take n (drop p (take m bytes))) e ∙ ap (take n) (drop-take p (k - p) bytes) ∙ take-take n (k - p) (drop p bytes) fits
+
+pub texts_cut : (a : ℕ) (ss : List Span) (e start k : ℕ) (bytes : List ℕ) → start ≤ a → IsRun a ss e → e ≤ start + k → map (bytes_of start (take k bytes)) ss ≡ map (bytes_of start bytes) ss
+texts_cut a [] e start k bytes le h fits = refl
+texts_cut a (s ∷ ss) e start k bytes le h fits =
+    let on : a + s.len ≤ e = run_le (a + s.len) ss e h.1 in
+    let at : s.start ≡ a = h.0 in
+    let within : (s.start - start) + s.len ≤ k = omega (arith, on, at, le, fits) in
+    let later : start ≤ a + s.len = omega (arith, le) in
+    λ i. part_of_take (s.start - start) s.len k bytes within i ∷ texts_cut (a + s.len) ss e start k bytes later h.1 fits i
+
+-- the bytes of the spans in a window that goes on
+pub texts_more : (a : ℕ) (ss : List Span) (bytes more : List ℕ) → IsRun a ss (a + length bytes) → map (bytes_of a (bytes ++ more)) ss ≡ map (bytes_of a bytes) ss
+texts_more a ss bytes more h =
+    let le : a ≤ a = omega arith in
+    let fits : a + length bytes ≤ a + length bytes = omega arith in
+    sym (texts_cut a ss (a + length bytes) a (length bytes) (bytes ++ more) le h fits) ∙ ap (λ l. map (bytes_of a l) ss) (take-append_seam bytes more)
+
+-- the bytes of the spans in a window that has lost its first bytes
+pub texts_moved : (a : ℕ) (ss : List Span) (e start n : ℕ) (bytes : List ℕ) → start + n ≤ a → IsRun a ss e → map (bytes_of (start + n) (drop n bytes)) ss ≡ map (bytes_of start bytes) ss
+texts_moved a [] e start n bytes le h = refl
+texts_moved a (s ∷ ss) e start n bytes le h =
+    let at : s.start ≡ a = h.0 in
+    let on : n + (s.start - (start + n)) ≡ s.start - start = omega (arith, at, le) in
+    let later : start + n ≤ a + s.len = omega (arith, le) in
+    λ i. take s.len ((drop-drop (s.start - (start + n)) n bytes ∙ ap (λ m. drop m bytes) on) i) ∷ texts_moved (a + s.len) ss e start n bytes later h.1 i
+
+-- the bytes of a span at the end of the window
+pub text_last : (a : ℕ) (s : Span) (bytes more : List ℕ) → s.start ≡ a + length bytes → s.len ≡ length more → bytes_of a (bytes ++ more) s ≡ more
+text_last a s bytes more p q =
+    let on : s.start - a ≡ length bytes = omega (arith, p) in
+    ap (λ m. take s.len (drop m (bytes ++ more))) on ∙ ap (take s.len) (drop-append_seam bytes more) ∙ ap (λ m. take m more) q ∙ take-length more
+
+-- a run, at equal ends and of an equal list
+pub run_along : (a b : ℕ) (ss ts : List Span) (e f : ℕ) → a ≡ b → ss ≡ ts → e ≡ f → IsRun a ss e → IsRun b ts f
+run_along a b ss ts e f p q r h = subst (λ (x : ℕ). IsRun x ts f) p (subst (λ (x : List Span). IsRun a x f) q (subst (λ (x : ℕ). IsRun a ss x) r h))

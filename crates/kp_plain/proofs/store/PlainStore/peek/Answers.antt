@@ -1,0 +1,7 @@
+use Rattle.std.proofs.Common.{subst, sym}
+use Rattle.kp_model.specs.Good.{IsSound}
+use Rattle.kp_plain.proofs.Keeping.{latest_sound}
+use Rattle.kp_plain.proofs.store.PlainStore.peek.Goals as goal
+
+pub seen-requires : goal.seen-requires
+seen-requires c = subst IsSound (sym c.in_ok-tree.ensures) (latest_sound c.self.inside.state c.self.inside.unapplied.items c.self.invariant)

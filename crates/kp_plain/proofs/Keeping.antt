@@ -1,0 +1,49 @@
+-- What the store keeps, through its calls.
+use Rattle.std.proofs.Common.{◌≡◌, Some, get_or, sym, subst, ℕ, ◌+◌, ◌<◌, ◌≤◌, List, [], ◌∷◌, ◌++◌, zero, suc, length, take, drop, arith, length-append}
+use Rattle.std.specs.FinMap as map
+use Rattle.std.specs.List.{All}
+use Rattle.std.proofs.lemmas.Bool.Decides.{nat_tests}
+use Rattle.std.proofs.lemmas.List.Elements.{All-append, All-take, All-drop}
+use Rattle.std.proofs.lemmas.List.Sums.{list_all-from_AllPass}
+use Rattle.kp_model.specs.Grammar.{is_entry}
+use Rattle.kp_model.specs.Good.{IsSound}
+use Rattle.kp_model.specs.LogEntry.{LogEntry}
+use Rattle.kp_model.specs.State.{State, empty}
+use Rattle.kp_model.specs.Store.{after}
+use Rattle.kp_model.proofs.GoodEmpty.{empty_sound}
+use Rattle.kp_model.specs.declared.node.Node.{Node}
+use Rattle.kp_model.specs.Step.{apply}
+use Rattle.kp_model.proofs.GoodSteps.{apply_sound, after_sound}
+use Rattle.kp_plain.specs.Built.{IsTaken, Keeps}
+
+pub keeps_none : Keeps empty []
+unfolding empty
+keeps_none = record { sound = empty_sound; room = omega arith; taken = λ k d lt. absurd (omega (arith, lt)) }
+
+one_taken : (e : LogEntry) → IsTaken e → All IsTaken (e ∷ [])
+one_taken e h zero d lt = h
+one_taken e h (suc k) d lt = absurd (omega (arith, lt))
+
+pub keeps_more : (s : State) (es : List LogEntry) (e : LogEntry) → Keeps s es → s.applied + length es < 4611686018427387904 → IsTaken e → Keeps s (es ++ e ∷ [])
+keeps_more s es e h lt t = record {
+  sound = h.sound;
+  room = omega (arith, length-append es (e ∷ []));
+  taken = All-append IsTaken es (e ∷ []) h.taken (one_taken e t);
+}
+
+-- the uncommitted state is sound
+pub latest_sound : (s : State) (es : List LogEntry) → Keeps s es → IsSound (after s es)
+latest_sound s es h = after_sound s es (list_all-from_AllPass is_entry es (λ k d lt. (h.taken k d lt).0)) h.room h.sound
+
+-- the entry at a place
+pub taken_at : (es : List LogEntry) (i : ℕ) (e : LogEntry) → All IsTaken es → i < length es → e ≡ get_or es i e → IsTaken e
+taken_at es i e h lt at = subst IsTaken (sym at) (h i e lt)
+
+-- the state that took the first entry in
+pub first_sound : (s new : State) (es : List LogEntry) (e : LogEntry) → All IsTaken es → IsSound s → s.applied < 4611686018427387904 → 0 < length es → e ≡ get_or es 0 e
+    → new ≡ (apply s e).state → IsSound new
+first_sound s new es e taken sound room some at same = subst IsSound (sym same) (apply_sound s e (taken_at es 0 e taken some at).0 room sound)
+
+-- the length of the data that a node has
+pub fits_found : (s : State) (p : List ℕ) (n : Node) → IsSound s → map.get s.nodes p ≡ Some n → length n.bytes ≤ 4294967295
+fits_found s p n h found = let fits = (h.good.numbers p n found).bytes in grind (arith, nat_tests, fits)

@@ -1,0 +1,6 @@
+mod SortedMap
+mod Placed
+mod LastSlash
+mod Replay
+mod Changed
+mod Keeping

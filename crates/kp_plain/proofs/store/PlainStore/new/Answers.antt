@@ -1,0 +1,6 @@
+use Rattle.std.proofs.Common.{sym, subst}
+use Rattle.kp_plain.proofs.Keeping.{keeps_none}
+use Rattle.kp_plain.proofs.store.PlainStore.new.Goals as goal
+
+pub invariant_of-result : goal.invariant_of-result
+invariant_of-result c = rw (c.in_ok-new.ensures, c.new-2.ensures.items) keeps_none

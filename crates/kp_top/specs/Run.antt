@@ -1,0 +1,65 @@
+-- What a line and a command may come to.
+use Rattle.std.specs.Prelude.{ℕ, Bool, false, ◌≡◌, List, [], ◌∷◌, ◌++◌, Option, Some, None, ⊤}
+use Rattle.std.specs.Str.{bytes_eq}
+use Rattle.std.specs.Io.KnownBytes.{Keeps}
+use Rattle.kp_top.specs.declared.status.Status.{Status}
+use Rattle.kp_top.specs.declared.status.Status.TheVariants as status
+use Rattle.kp_top.specs.declared.taken.Taken.{Taken}
+use Rattle.kp_top.specs.declared.taken.Taken.TheVariants as taken
+use Rattle.kp_top.specs.declared.line.StoreLine.{StoreLine}
+use Rattle.kp_top.specs.Lines.{line_of}
+use Rattle.kp_top.specs.Transcript.{Work, turn}
+use Rattle.kp_top.specs.Output.{WroteAll, WrotePart}
+use lib.Chars.{codes}
+
+-- what a line prints, with its line feed
+abbrev pub printed_line : Work → ℕ → StoreLine → List ℕ
+printed_line w n l = (turn w n l).text ++ 10 ∷ []
+
+-- what came of the n-th line: it was done and printed; it is none; it was printed in part; or memory ran out before anything of it was printed
+abbrev pub TakenAs : Work → Work → ℕ → List ℕ → Option (List ℕ) → Option (List ℕ) → Taken → Type 0
+TakenAs w v n text old new taken.Printed = (l : StoreLine) × (line_of text ≡ Some l) × (v ≡ (turn w n l).work) × WroteAll old new (printed_line w n l)
+TakenAs w v n text old new taken.Bad = (line_of text ≡ None) × Keeps old new
+TakenAs w v n text old new taken.WriteFault = (l : StoreLine) × (line_of text ≡ Some l) × WrotePart old new (printed_line w n l)
+TakenAs w v n text old new taken.NoMemory = Keeps old new
+
+-- the words `store`
+abbrev pub is_store_command : List (List ℕ) → Bool
+is_store_command (w ∷ []) = bytes_eq w (codes "store")
+is_store_command _ = false
+
+-- the statuses that lines may come to
+abbrev pub IsOfLines : Status → Type 0
+IsOfLines status.Done = ⊤
+IsOfLines (status.BadLine n) = ⊤
+IsOfLines status.WriteFault = ⊤
+IsOfLines status.NoMemory = ⊤
+IsOfLines _ = ⊥
+
+-- the statuses that come only once the whole input was read
+abbrev pub IsBehindInput : Status → Type 0
+IsBehindInput status.Done = ⊤
+IsBehindInput (status.BadLine n) = ⊤
+IsBehindInput status.WriteFault = ⊤
+IsBehindInput _ = ⊥
+
+-- the statuses that come before anything is written
+abbrev pub IsBeforeLines : Status → Type 0
+IsBeforeLines status.Usage = ⊤
+IsBeforeLines status.ReadFault = ⊤
+IsBeforeLines status.TooLong = ⊤
+IsBeforeLines _ = ⊥
+
+-- the statuses of the store command
+abbrev pub IsOfStore : Status → Type 0
+IsOfStore status.DiskFault = ⊥
+IsOfStore (status.Damaged slot at) = ⊥
+IsOfStore status.NetFault = ⊥
+IsOfStore (status.Full slot len) = ⊥
+IsOfStore _ = ⊤
+
+-- all was done, or memory ran out
+abbrev pub IsDoneOrNoMemory : Status → Type 0
+IsDoneOrNoMemory status.Done = ⊤
+IsDoneOrNoMemory status.NoMemory = ⊤
+IsDoneOrNoMemory _ = ⊥

@@ -1,0 +1,121 @@
+ghost use Rattle.std.specs.Prelude.{◌≡◌, ◌<◌, ◌≤◌, IfSome, map, length, take, Some, [], ◌∷◌, IfOk, MatchOption};
+ghost use Rattle.std.specs.List.{list_all, position};
+ghost use Rattle.std.specs.Option.{option_map};
+ghost use Rattle.std.specs.Char.{is_ascii_digit};
+ghost use Rattle.kp_top.specs.Words.{is_feed, lines_of, words_of, is_numeral as is_numeral_of, number_of as number_in, is_lower_hex, hex_of as hex_in, data_of as data_in, passwd_of as passwd_in, of_16};
+
+use kp_model::NoMemory;
+use std::alloc::{AllocError, Global};
+
+/// The first line of a text, without its line feed, and what comes behind it.
+pub fn next_line(text: &[u8]) -> Option<(&[u8], &[u8])>
+    ensures { MatchOption result (lines_of text.now ≡ []) (λ x. (lines_of text.now ≡ x.0.now ∷ lines_of x.1.now) × (length x.1.now < length text.now)) }
+{
+    if text.is_empty() {
+        return None;
+    }
+    match first_feed(text) {
+        Some(at) => Some((&text[..at], &text[at + 1..])),
+        None => Some((text, &[])),
+    }
+}
+
+fn first_feed(text: &[u8]) -> Option<usize>
+    ensures { result ≡ position is_feed text.now }
+{
+    text.iter().position(|b| *b == b'\n')
+}
+
+/// The first words of a line, at most so many.
+pub fn first_words(alloc: Global, line: &str, most: usize) -> Result<Vec<&str>, AllocError>
+    ensures { IfOk result (λ v. map (λ x. x.now) v.items ≡ take most (words_of line.now)) }
+{
+    line.split(' ').take(most).collect(alloc)
+}
+
+fn is_numeral(word: &str) -> bool
+    ensures { result ≡ is_numeral_of word.now }
+{
+    let bytes = word.as_bytes();
+    all_digits(bytes) && (!bytes.is_empty() && (bytes.len() == 1 || bytes[0] != b'0'))
+}
+
+fn all_digits(bytes: &[u8]) -> bool
+    ensures { result ≡ list_all is_ascii_digit bytes.now }
+{
+    bytes.iter().all(|b| b.is_ascii_digit())
+}
+
+/// The number that a word is, up to a limit.
+#[tactic(auto, unfolding(crate::specs::Words::number_of))]
+pub fn number_of(most: u64, word: &str) -> Option<u64>
+    ensures value { result ≡ number_in most word.now }
+    ensures bound { IfSome result (λ n. n ≤ most) }
+{
+    if !is_numeral(word) {
+        return None;
+    }
+    match word.parse::<u64>() {
+        Ok(n) => { if n <= most { Some(n) } else { None } }
+        Err(_) => None,
+    }
+}
+
+fn all_lower_hex(bytes: &[u8]) -> bool
+    ensures { result ≡ list_all is_lower_hex bytes.now }
+{
+    bytes
+        .iter()
+        .all(|b| b.is_ascii_digit() || (97 <= *b && *b <= 102))
+}
+
+/// The bytes that a word is in lower-case hexadecimal.
+#[tactic(auto, unfolding(crate::specs::Words::hex_of))]
+pub fn hex_of(alloc: Global, word: &str) -> Result<Option<Vec<u8>>, NoMemory>
+    ensures { IfOk result (λ o. option_map (λ v. v.items) o ≡ hex_in word.now) }
+{
+    if !all_lower_hex(word.as_bytes()) {
+        return Ok(None);
+    }
+    match hex::decode(alloc, word) {
+        Ok(bytes) => Ok(Some(bytes)),
+        Err(hex::FromHexError::OutOfMemory) => Err(NoMemory),
+        Err(_) => Ok(None),
+    }
+}
+
+/// The same of one byte or more, and `-` for none.
+#[tactic(auto, unfolding(crate::specs::Words::data_of))]
+pub fn data_of(alloc: Global, word: &str) -> Result<Option<Vec<u8>>, NoMemory>
+    ensures { IfOk result (λ o. option_map (λ v. v.items) o ≡ data_in word.now) }
+{
+    if word == "-" {
+        return Ok(Some(Vec::new(alloc)));
+    }
+    if word.is_empty() {
+        return Ok(None);
+    }
+    hex_of(alloc, word)
+}
+
+/// A password: 16 bytes in lower-case hexadecimal.
+#[tactic(auto, unfolding(crate::specs::Words::passwd_of))]
+pub fn passwd_of(alloc: Global, word: &str) -> Result<Option<[u8; 16]>, NoMemory>
+    ensures { IfOk result (λ o. o ≡ passwd_in word.now) }
+{
+    match hex_of(alloc, word)? {
+        None => Ok(None),
+        Some(bytes) => Ok(array_of(bytes.as_slice())),
+    }
+}
+
+fn array_of(bytes: &[u8]) -> Option<[u8; 16]>
+    ensures { result ≡ of_16 (Some bytes.now) }
+{
+    if bytes.len() != 16 {
+        return None;
+    }
+    let mut passwd = [0u8; 16];
+    passwd.copy_from_slice(bytes);
+    Some(passwd)
+}

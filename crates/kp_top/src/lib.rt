@@ -14,3 +14,6 @@ mod work;
 pub use command::run_command;
 pub use line::StoreLine;
 pub use status::Status;
+
+#[cfg(test)]
+mod tests;

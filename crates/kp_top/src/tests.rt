@@ -1,0 +1,124 @@
+ghost use Rattle.std.specs.Prelude.{◌<◌};
+
+use crate::{Status, run_command};
+use kp_io::{FaultySink, FaultySource, MemorySink, MemorySource, Seven, Sink, Source};
+use std::alloc::{AllocError, Global};
+use std::test::Fail;
+
+/// Lines, what they must print, and the name of the status that they must end in.
+struct Row {
+    lines: &'static str,
+    output: &'static str,
+    status: &'static str,
+}
+
+const ROWS: [Row; 5] = [
+    Row {
+        lines: "open 30000 00000000000000000000000000000000\ncreate 1 /a 0 6869\npeek /a\nsee /a\ncommit\ncommit\nsee /a\n",
+        output: "pre 1 ok session=1\npre 2 ok path=/a\npeek 6869 cz=2 mz=2 pz=2 ct=0 mt=0 v=0 cv=0 av=0 own=0 len=2 kids=0\nsee none\ndone 1 ok session=1\ndone 2 ok path=/a\nsee 6869 cz=2 mz=2 pz=2 ct=0 mt=0 v=0 cv=0 av=0 own=0 len=2 kids=0\n",
+        status: "Done",
+    },
+    Row {
+        lines: "",
+        output: "",
+        status: "Done",
+    },
+    Row {
+        lines: "noop\nfoo\n",
+        output: "pre 1 ok\n",
+        status: "BadLine { n: 2 }",
+    },
+    Row {
+        lines: "open 30000 00000000000000000000000000000000\ncreate 1 /a 0 -\ncreate 1 /a 0 -\ncommit\ncommit\ncommit",
+        output: "pre 1 ok session=1\npre 2 ok path=/a\npre 3 err=-110\ndone 1 ok session=1\ndone 2 ok path=/a\ndone 3 err=-110\n",
+        status: "Done",
+    },
+    Row {
+        lines: "open 30000 00000000000000000000000000000000\ncommit\ncommit\ntruncate 0\ntruncate 2\ntruncate 1\n",
+        output: "pre 1 ok session=1\ndone 1 ok session=1\ndone none\ncut refused\ncut refused\ncut 1\n",
+        status: "Done",
+    },
+];
+
+/// The name of the status in which these words end, over this input and output.
+fn end_of<S: Source, W: Sink>(
+    alloc: Global,
+    words: &str,
+    input: &mut S,
+    output: &mut W,
+) -> Result<String, AllocError> {
+    let mut list = Vec::new(alloc);
+    for word in words.split(' ') {
+        list.push(String::from_str(alloc, word)?)?;
+    }
+    let mut homes = Seven::blank(alloc);
+    let status: Status = run_command(alloc, list.as_slice(), input, output, &mut homes);
+    format!(in alloc; "{status:?}")
+}
+
+fn source(alloc: Global, text: &str, piece: usize) -> Result<MemorySource, AllocError>
+    requires { 0 < piece }
+{
+    Ok(MemorySource::new(Vec::from_slice(alloc, text.as_bytes())?, piece))
+}
+
+#[test]
+fn lines_print_their_transcript(rt: HostRuntime) -> Result<(), Fail> {
+    let alloc = rt.alloc();
+    for row in &ROWS {
+        for piece in [1, 7, 4096] {
+            let mut input = source(alloc, row.lines, piece)?;
+            let mut output = MemorySink::new(alloc, piece);
+            let status = end_of(alloc, "store", &mut input, &mut output)?;
+            assert_eq!(rt; status.as_str(), row.status, "{}", row.lines);
+            assert_eq!(rt; output.bytes(), row.output.as_bytes(), "{}", row.lines);
+        }
+    }
+    Ok(())
+}
+
+#[test]
+fn other_words_are_no_command(rt: HostRuntime) -> Result<(), Fail> {
+    let alloc = rt.alloc();
+    for words in ["script 2", "store 1", "stor", "STORE"] {
+        let mut input = source(alloc, "noop\n", 4096)?;
+        let mut output = MemorySink::new(alloc, 4096);
+        let status = end_of(alloc, words, &mut input, &mut output)?;
+        assert_eq!(rt; status.as_str(), "Usage", "{words}");
+        assert_eq!(rt; output.bytes(), b"".as_slice(), "{words}");
+    }
+    Ok(())
+}
+
+#[test]
+fn faults_end_a_run(rt: HostRuntime) -> Result<(), Fail> {
+    let alloc = rt.alloc();
+    let mut input = source(alloc, "noop\nnoop\n", 4096)?;
+    let mut output = FaultySink::new(alloc, 4096, vec![in alloc; 2]?);
+    let status = end_of(alloc, "store", &mut input, &mut output)?;
+    assert_eq!(rt; status.as_str(), "WriteFault");
+    assert_eq!(rt; output.bytes(), b"pre 1 ok\n".as_slice());
+
+    let text = Vec::from_slice(alloc, b"noop\nnoop\n")?;
+    let mut input = FaultySource::new(text, 3, vec![in alloc; 3]?);
+    let mut output = MemorySink::new(alloc, 4096);
+    let status = end_of(alloc, "store", &mut input, &mut output)?;
+    assert_eq!(rt; status.as_str(), "ReadFault");
+    assert_eq!(rt; output.bytes(), b"".as_slice());
+    Ok(())
+}
+
+fn spaces(alloc: Global, count: usize) -> Result<Vec<u8>, AllocError> {
+    vec![in alloc; b' '; count]
+}
+
+#[test]
+fn one_byte_too_many_is_too_long(rt: HostRuntime) -> Result<(), Fail> {
+    let alloc = rt.alloc();
+    let mut input = MemorySource::new(spaces(alloc, 67108865)?, usize::MAX);
+    let mut output = MemorySink::new(alloc, 4096);
+    let status = end_of(alloc, "store", &mut input, &mut output)?;
+    assert_eq!(rt; status.as_str(), "TooLong");
+    assert_eq!(rt; output.bytes(), b"".as_slice());
+    Ok(())
+}

@@ -9,6 +9,7 @@ use Rattle.kp_model.specs.declared.node.Acl.{Acl}
 use Rattle.kp_model.specs.declared.node.Meta.{Meta}
 use Rattle.kp_model.specs.declared.session.Session.{Session}
 use Rattle.kp_model.specs.State.{State, path_cmp}
+use Rattle.kp_cells.specs.declared.cells.CellsMark.{CellsMark}
 use Rattle.kp_cells.specs.Parts.{Parts, whole}
 
 -- the layers of each part, by path or by session, and the index of the last entry that was made part of the bases
@@ -22,16 +23,6 @@ pub record Overlays : Type 0 where
   -- the next session number, at the key 0
   pub next : Layering nat_cmp ℕ
   pub applied : ℕ
-
--- how many writes the open layer of each part had
-pub record Marks : Type 0 where
-  pub metas : ℕ
-  pub contents : ℕ
-  pub acls : ℕ
-  pub children : ℕ
-  pub owners : ℕ
-  pub sessions : ℕ
-  pub next : ℕ
 
 -- a layer is open, in all parts alike
 abbrev pub IsOpen : Overlays → Type 0
@@ -139,11 +130,11 @@ abbrev pub all_abandoned : Overlays → Overlays
 all_abandoned o = record { metas = abandoned o.metas; contents = abandoned o.contents; acls = abandoned o.acls; children = abandoned o.children; owners = abandoned o.owners; sessions = abandoned o.sessions; next = abandoned o.next; applied = o.applied }
 
 -- how many writes the open layer of each part has
-abbrev pub marks_of : Overlays → Marks
+abbrev pub marks_of : Overlays → CellsMark
 marks_of o = record { metas = length (staged_of o.metas); contents = length (staged_of o.contents); acls = length (staged_of o.acls); children = length (staged_of o.children); owners = length (staged_of o.owners); sessions = length (staged_of o.sessions); next = length (staged_of o.next) }
 
 -- each part with the first so many writes of its open layer
-abbrev pub all_undone : Overlays → Marks → Overlays
+abbrev pub all_undone : Overlays → CellsMark → Overlays
 all_undone o m = record { metas = undone o.metas m.metas; contents = undone o.contents m.contents; acls = undone o.acls m.acls; children = undone o.children m.children; owners = undone o.owners m.owners; sessions = undone o.sessions m.sessions; next = undone o.next m.next; applied = o.applied }
 
 -- the applied index is one more where a layer was sealed; it stands still at its type's end

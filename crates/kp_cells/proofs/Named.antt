@@ -1,6 +1,6 @@
 -- Numbers of paths.
 use Rattle.std.proofs.Common.{◌≡◌, ℕ, ◌<◌, ◌+◌, Bool, true, false, cond, nat_eq, List, [], ◌∷◌, Option, Some, None, refl, ap, sym, ◌∙◌, subst, arith}
-use Rattle.std.specs.Prelude.{String, string_bytes, Result, Ok, Err, IsOk, OnOk}
+use Rattle.std.specs.Prelude.{String, string_bytes, Result, Ok, Err, IsOk, OnOk, OnErr}
 use Rattle.std.specs.Str.{bytes_eq}
 use Rattle.std.specs.Ordering.{nat_cmp, eq_by_cmp}
 use Rattle.std.specs.Map.{lookup}
@@ -64,9 +64,13 @@ empty_naming names e = let P : Naming → Type 0 = λ n. IsNaming n × AreBelow 
     no_text : {p : List ℕ} → ◌≡◌ {A = Option (List ℕ)} None (Some p) → ⊥
     no_text e = (cc)
 
-no_number : (b : Bool) → b ≡ true → b ≡ false → ⊥
+pub no_number : (b : Bool) → b ≡ true → b ≡ false → ⊥
 no_number true e h = (cc)
 no_number false e h = (cc)
+
+pub on_err : {T E : Type 0} (r : Result T E) {P : Type 0} → P → OnErr r P
+on_err (Ok x) p = tt
+on_err (Err e) p = p
 
 pub on_ok : {T E : Type 0} (r : Result T E) {P : Type 0} → IsOk r → OnOk r P → P
 on_ok (Ok x) ok p = p

@@ -1,6 +1,6 @@
 -- The parts of a `Cells` together.
 use Rattle.std.proofs.Common.{◌≡◌, ℕ, ◌+◌, ◌-◌, Bool, true, false, List, [], ◌∷◌, ◌++◌, take, drop, length, Option, Some, None, IsSome, is_some, refl, ap, sym, ◌∙◌, subst, arith, length-append, length-drop}
-use Rattle.std.specs.Prelude.{min}
+use Rattle.std.specs.Prelude.{min, zero, suc, ◌<◌, ◌↔◌, IsTrue, if◌then◌else◌}
 use Rattle.std.specs.Option.{option_map}
 use Rattle.std.specs.declared.cmp.Ordering.{Ordering}
 use Rattle.std.specs.Ordering.{nat_cmp}
@@ -12,8 +12,9 @@ use Rattle.kp_model.specs.declared.node.Meta.{Meta}
 use Rattle.kp_model.specs.declared.session.Session.{Session}
 use Rattle.kp_cells.specs.declared.cells.CellsMark.{CellsMark}
 use Rattle.kp_cells.specs.Naming.{Naming, IsNaming, IsNamed, Grows, Knows, layers_by_path}
-use Rattle.kp_cells.specs.Overlays.{Overlays, with_meta, with_content, with_acl, with_child, with_owner}
+use Rattle.kp_cells.specs.Overlays.{Overlays, applied_after}
 use Rattle.kp_cells.specs.Held.{overlays, AreAlike, AreHeld}
+use Rattle.kp_cells.proofs.Named.{no_number}
 use Rattle.kp_cells.proofs.ByPath.{written_by_path, sealed_by_path, undone_by_path, back_dropped_by_path, front_committed_by_path, named_written, named_begun, named_abandoned, named_sealed, named_undone, named_back_dropped, named_front_committed, grown_by_path, grown_named}
 
 -- where the parts say that a layer is open, or that none is
@@ -40,65 +41,65 @@ pub begun_abandoned : {V : Type 0} (l x y : Layering nat_cmp V) → x ≡ begun 
 begun_abandoned l x y e f none = f ∙ ap abandoned e ∙ (λ i. record { base = l.base; layers = l.layers; staged = sym none i })
 
 -- the same change of each part
-module _ (op : {K : Type 0} {R : K → K → Ordering} {V : Type 0} → ℕ → Layering R V → Layering R V)
-    (seen : {V : Type 0} (names : Naming) → IsNaming names → (k : ℕ) (l : Layering nat_cmp V) → IsNamed names l → layers_by_path names (op k l) ≡ op k (layers_by_path names l))
-    (named : {V : Type 0} (names : Naming) → IsNaming names → (k : ℕ) (l : Layering nat_cmp V) → IsNamed names l → IsNamed names (op k l))
-    (alike : {V W : Type 0} (j k : ℕ) (l : Layering nat_cmp V) (m : Layering nat_cmp W) → AreAlike l m → AreAlike (op j l) (op k m)) where
+module _ (op : (K : Type 0) (R : K → K → Ordering) (V : Type 0) → ℕ → Layering R V → Layering R V)
+    (seen : (V : Type 0) (names : Naming) → IsNaming names → (k : ℕ) (l : Layering nat_cmp V) → IsNamed names l → layers_by_path names (op _ _ _ k l) ≡ op _ _ _ k (layers_by_path names l))
+    (named : (V : Type 0) (names : Naming) → IsNaming names → (k : ℕ) (l : Layering nat_cmp V) → IsNamed names l → IsNamed names (op _ _ _ k l))
+    (alike : (V W : Type 0) (j k : ℕ) (l : Layering nat_cmp V) (m : Layering nat_cmp W) → AreAlike l m → AreAlike (op _ _ _ j l) (op _ _ _ k m)) where
   abbrev all_op : CellsMark → Overlays → Overlays
-  all_op k o = record { metas = op k.metas o.metas; contents = op k.contents o.contents; acls = op k.acls o.acls; children = op k.children o.children; owners = op k.owners o.owners; sessions = op k.sessions o.sessions; next = op k.next o.next; applied = o.applied }
+  all_op k o = record { metas = op _ _ _ k.metas o.metas; contents = op _ _ _ k.contents o.contents; acls = op _ _ _ k.acls o.acls; children = op _ _ _ k.children o.children; owners = op _ _ _ k.owners o.owners; sessions = op _ _ _ k.sessions o.sessions; next = op _ _ _ k.next o.next; applied = o.applied }
 
-  here : (names : Naming) (k : CellsMark) (metas : Layering nat_cmp Meta) (contents : Layering nat_cmp (List ℕ)) (acls : Layering nat_cmp (List Acl)) (children : Layering nat_cmp (Unit {0})) (owners : Layering nat_cmp ℕ) (sessions : Layering nat_cmp Session) (next : Layering nat_cmp ℕ) (applied : ℕ) → AreHeld names metas contents acls children owners sessions next → AreHeld names (op k.metas metas) (op k.contents contents) (op k.acls acls) (op k.children children) (op k.owners owners) (op k.sessions sessions) (op k.next next) × (overlays names (op k.metas metas) (op k.contents contents) (op k.acls acls) (op k.children children) (op k.owners owners) (op k.sessions sessions) (op k.next next) applied ≡ all_op k (overlays names metas contents acls children owners sessions next applied))
+  here : (names : Naming) (k : CellsMark) (metas : Layering nat_cmp Meta) (contents : Layering nat_cmp (List ℕ)) (acls : Layering nat_cmp (List Acl)) (children : Layering nat_cmp (Unit {0})) (owners : Layering nat_cmp ℕ) (sessions : Layering nat_cmp Session) (next : Layering nat_cmp ℕ) (applied : ℕ) → AreHeld names metas contents acls children owners sessions next → AreHeld names (op _ _ _ k.metas metas) (op _ _ _ k.contents contents) (op _ _ _ k.acls acls) (op _ _ _ k.children children) (op _ _ _ k.owners owners) (op _ _ _ k.sessions sessions) (op _ _ _ k.next next) × (overlays names (op _ _ _ k.metas metas) (op _ _ _ k.contents contents) (op _ _ _ k.acls acls) (op _ _ _ k.children children) (op _ _ _ k.owners owners) (op _ _ _ k.sessions sessions) (op _ _ _ k.next next) applied ≡ all_op k (overlays names metas contents acls children owners sessions next applied))
   here names k metas contents acls children owners sessions next applied h = (
     record {
       naming = h.naming;
-      metas_named = named names h.naming k.metas metas h.metas_named;
-      contents_named = named names h.naming k.contents contents h.contents_named;
-      acls_named = named names h.naming k.acls acls h.acls_named;
-      children_named = named names h.naming k.children children h.children_named;
-      owners_named = named names h.naming k.owners owners h.owners_named;
-      contents_alike = alike k.metas k.contents metas contents h.contents_alike;
-      acls_alike = alike k.metas k.acls metas acls h.acls_alike;
-      children_alike = alike k.metas k.children metas children h.children_alike;
-      owners_alike = alike k.metas k.owners metas owners h.owners_alike;
-      sessions_alike = alike k.metas k.sessions metas sessions h.sessions_alike;
-      next_alike = alike k.metas k.next metas next h.next_alike;
+      metas_named = named _ names h.naming k.metas metas h.metas_named;
+      contents_named = named _ names h.naming k.contents contents h.contents_named;
+      acls_named = named _ names h.naming k.acls acls h.acls_named;
+      children_named = named _ names h.naming k.children children h.children_named;
+      owners_named = named _ names h.naming k.owners owners h.owners_named;
+      contents_alike = alike _ _ k.metas k.contents metas contents h.contents_alike;
+      acls_alike = alike _ _ k.metas k.acls metas acls h.acls_alike;
+      children_alike = alike _ _ k.metas k.children metas children h.children_alike;
+      owners_alike = alike _ _ k.metas k.owners metas owners h.owners_alike;
+      sessions_alike = alike _ _ k.metas k.sessions metas sessions h.sessions_alike;
+      next_alike = alike _ _ k.metas k.next metas next h.next_alike;
     },
-    let e_metas : layers_by_path names (op k.metas metas) ≡ op k.metas (layers_by_path names metas) = seen names h.naming k.metas metas h.metas_named in
-    let e_contents : layers_by_path names (op k.contents contents) ≡ op k.contents (layers_by_path names contents) = seen names h.naming k.contents contents h.contents_named in
-    let e_acls : layers_by_path names (op k.acls acls) ≡ op k.acls (layers_by_path names acls) = seen names h.naming k.acls acls h.acls_named in
-    let e_children : layers_by_path names (op k.children children) ≡ op k.children (layers_by_path names children) = seen names h.naming k.children children h.children_named in
-    let e_owners : layers_by_path names (op k.owners owners) ≡ op k.owners (layers_by_path names owners) = seen names h.naming k.owners owners h.owners_named in
-    λ i. record { metas = e_metas i; contents = e_contents i; acls = e_acls i; children = e_children i; owners = e_owners i; sessions = op k.sessions sessions; next = op k.next next; applied = applied },
+    let e_metas : layers_by_path names (op _ _ _ k.metas metas) ≡ op _ _ _ k.metas (layers_by_path names metas) = seen _ names h.naming k.metas metas h.metas_named in
+    let e_contents : layers_by_path names (op _ _ _ k.contents contents) ≡ op _ _ _ k.contents (layers_by_path names contents) = seen _ names h.naming k.contents contents h.contents_named in
+    let e_acls : layers_by_path names (op _ _ _ k.acls acls) ≡ op _ _ _ k.acls (layers_by_path names acls) = seen _ names h.naming k.acls acls h.acls_named in
+    let e_children : layers_by_path names (op _ _ _ k.children children) ≡ op _ _ _ k.children (layers_by_path names children) = seen _ names h.naming k.children children h.children_named in
+    let e_owners : layers_by_path names (op _ _ _ k.owners owners) ≡ op _ _ _ k.owners (layers_by_path names owners) = seen _ names h.naming k.owners owners h.owners_named in
+    λ i. record { metas = e_metas i; contents = e_contents i; acls = e_acls i; children = e_children i; owners = e_owners i; sessions = op _ _ _ k.sessions sessions; next = op _ _ _ k.next next; applied = applied },
   )
 
-  pub moved : (names : Naming) (k : CellsMark) (metas metas' : Layering nat_cmp Meta) (contents contents' : Layering nat_cmp (List ℕ)) (acls acls' : Layering nat_cmp (List Acl)) (children children' : Layering nat_cmp (Unit {0})) (owners owners' : Layering nat_cmp ℕ) (sessions sessions' : Layering nat_cmp Session) (next next' : Layering nat_cmp ℕ) (applied : ℕ) → metas' ≡ op k.metas metas → contents' ≡ op k.contents contents → acls' ≡ op k.acls acls → children' ≡ op k.children children → owners' ≡ op k.owners owners → sessions' ≡ op k.sessions sessions → next' ≡ op k.next next → AreHeld names metas contents acls children owners sessions next → AreHeld names metas' contents' acls' children' owners' sessions' next' × (overlays names metas' contents' acls' children' owners' sessions' next' applied ≡ all_op k (overlays names metas contents acls children owners sessions next applied))
+  pub moved : (names : Naming) (k : CellsMark) (metas metas' : Layering nat_cmp Meta) (contents contents' : Layering nat_cmp (List ℕ)) (acls acls' : Layering nat_cmp (List Acl)) (children children' : Layering nat_cmp (Unit {0})) (owners owners' : Layering nat_cmp ℕ) (sessions sessions' : Layering nat_cmp Session) (next next' : Layering nat_cmp ℕ) (applied : ℕ) → metas' ≡ op _ _ _ k.metas metas → contents' ≡ op _ _ _ k.contents contents → acls' ≡ op _ _ _ k.acls acls → children' ≡ op _ _ _ k.children children → owners' ≡ op _ _ _ k.owners owners → sessions' ≡ op _ _ _ k.sessions sessions → next' ≡ op _ _ _ k.next next → AreHeld names metas contents acls children owners sessions next → AreHeld names metas' contents' acls' children' owners' sessions' next' × (overlays names metas' contents' acls' children' owners' sessions' next' applied ≡ all_op k (overlays names metas contents acls children owners sessions next applied))
   moved names k metas metas' contents contents' acls acls' children children' owners owners' sessions sessions' next next' applied e_metas e_contents e_acls e_children e_owners e_sessions e_next h =
       let P : Layering nat_cmp Meta → Layering nat_cmp (List ℕ) → Layering nat_cmp (List Acl) → Layering nat_cmp (Unit {0}) → Layering nat_cmp ℕ → Layering nat_cmp Session → Layering nat_cmp ℕ → Type 0 = λ x_metas x_contents x_acls x_children x_owners x_sessions x_next. AreHeld names x_metas x_contents x_acls x_children x_owners x_sessions x_next × (overlays names x_metas x_contents x_acls x_children x_owners x_sessions x_next applied ≡ all_op k (overlays names metas contents acls children owners sessions next applied)) in
-      subst (λ x. P metas' contents' acls' children' owners' sessions' x) (sym e_next) (subst (λ x. P metas' contents' acls' children' owners' x (op k.next next)) (sym e_sessions) (subst (λ x. P metas' contents' acls' children' x (op k.sessions sessions) (op k.next next)) (sym e_owners) (subst (λ x. P metas' contents' acls' x (op k.owners owners) (op k.sessions sessions) (op k.next next)) (sym e_children) (subst (λ x. P metas' contents' x (op k.children children) (op k.owners owners) (op k.sessions sessions) (op k.next next)) (sym e_acls) (subst (λ x. P metas' x (op k.acls acls) (op k.children children) (op k.owners owners) (op k.sessions sessions) (op k.next next)) (sym e_contents) (subst (λ x. P x (op k.contents contents) (op k.acls acls) (op k.children children) (op k.owners owners) (op k.sessions sessions) (op k.next next)) (sym e_metas) (here names k metas contents acls children owners sessions next applied h)))))))
+      subst (λ x. P metas' contents' acls' children' owners' sessions' x) (sym e_next) (subst (λ x. P metas' contents' acls' children' owners' x (op _ _ _ k.next next)) (sym e_sessions) (subst (λ x. P metas' contents' acls' children' x (op _ _ _ k.sessions sessions) (op _ _ _ k.next next)) (sym e_owners) (subst (λ x. P metas' contents' acls' x (op _ _ _ k.owners owners) (op _ _ _ k.sessions sessions) (op _ _ _ k.next next)) (sym e_children) (subst (λ x. P metas' contents' x (op _ _ _ k.children children) (op _ _ _ k.owners owners) (op _ _ _ k.sessions sessions) (op _ _ _ k.next next)) (sym e_acls) (subst (λ x. P metas' x (op _ _ _ k.acls acls) (op _ _ _ k.children children) (op _ _ _ k.owners owners) (op _ _ _ k.sessions sessions) (op _ _ _ k.next next)) (sym e_contents) (subst (λ x. P x (op _ _ _ k.contents contents) (op _ _ _ k.acls acls) (op _ _ _ k.children children) (op _ _ _ k.owners owners) (op _ _ _ k.sessions sessions) (op _ _ _ k.next next)) (sym e_metas) (here names k metas contents acls children owners sessions next applied h)))))))
 
 length_front : {A : Type 0} (xs : List A) → length (take (length xs - 1) xs) ≡ length xs - 1
 length_front xs = grind (arith, common_steps)
 
 pub all_begun_is : (names : Naming) (k : CellsMark) (metas metas' : Layering nat_cmp Meta) (contents contents' : Layering nat_cmp (List ℕ)) (acls acls' : Layering nat_cmp (List Acl)) (children children' : Layering nat_cmp (Unit {0})) (owners owners' : Layering nat_cmp ℕ) (sessions sessions' : Layering nat_cmp Session) (next next' : Layering nat_cmp ℕ) (applied : ℕ) → metas' ≡ begun metas → contents' ≡ begun contents → acls' ≡ begun acls → children' ≡ begun children → owners' ≡ begun owners → sessions' ≡ begun sessions → next' ≡ begun next → AreHeld names metas contents acls children owners sessions next → AreHeld names metas' contents' acls' children' owners' sessions' next' × (overlays names metas' contents' acls' children' owners' sessions' next' applied ≡ record { metas = begun (layers_by_path names metas); contents = begun (layers_by_path names contents); acls = begun (layers_by_path names acls); children = begun (layers_by_path names children); owners = begun (layers_by_path names owners); sessions = begun sessions; next = begun next; applied = applied })
-all_begun_is = moved (λ k l. begun l) (λ names h k l n. refl) (λ names h k l n. named_begun names h l n) (λ j k l m h. record { layers = h.layers; staged = refl })
+all_begun_is = moved (λ K R V k l. begun l) (λ V names h k l n. refl) (λ V names h k l n. named_begun names h l n) (λ V W j k l m h. record { layers = h.layers; staged = refl })
 
 pub all_abandoned_is : (names : Naming) (k : CellsMark) (metas metas' : Layering nat_cmp Meta) (contents contents' : Layering nat_cmp (List ℕ)) (acls acls' : Layering nat_cmp (List Acl)) (children children' : Layering nat_cmp (Unit {0})) (owners owners' : Layering nat_cmp ℕ) (sessions sessions' : Layering nat_cmp Session) (next next' : Layering nat_cmp ℕ) (applied : ℕ) → metas' ≡ abandoned metas → contents' ≡ abandoned contents → acls' ≡ abandoned acls → children' ≡ abandoned children → owners' ≡ abandoned owners → sessions' ≡ abandoned sessions → next' ≡ abandoned next → AreHeld names metas contents acls children owners sessions next → AreHeld names metas' contents' acls' children' owners' sessions' next' × (overlays names metas' contents' acls' children' owners' sessions' next' applied ≡ record { metas = abandoned (layers_by_path names metas); contents = abandoned (layers_by_path names contents); acls = abandoned (layers_by_path names acls); children = abandoned (layers_by_path names children); owners = abandoned (layers_by_path names owners); sessions = abandoned sessions; next = abandoned next; applied = applied })
-all_abandoned_is = moved (λ k l. abandoned l) (λ names h k l n. refl) (λ names h k l n. named_abandoned names h l n) (λ j k l m h. record { layers = h.layers; staged = refl })
+all_abandoned_is = moved (λ K R V k l. abandoned l) (λ V names h k l n. refl) (λ V names h k l n. named_abandoned names h l n) (λ V W j k l m h. record { layers = h.layers; staged = refl })
 
 pub all_undone_is : (names : Naming) (k : CellsMark) (metas metas' : Layering nat_cmp Meta) (contents contents' : Layering nat_cmp (List ℕ)) (acls acls' : Layering nat_cmp (List Acl)) (children children' : Layering nat_cmp (Unit {0})) (owners owners' : Layering nat_cmp ℕ) (sessions sessions' : Layering nat_cmp Session) (next next' : Layering nat_cmp ℕ) (applied : ℕ) → metas' ≡ undone metas k.metas → contents' ≡ undone contents k.contents → acls' ≡ undone acls k.acls → children' ≡ undone children k.children → owners' ≡ undone owners k.owners → sessions' ≡ undone sessions k.sessions → next' ≡ undone next k.next → AreHeld names metas contents acls children owners sessions next → AreHeld names metas' contents' acls' children' owners' sessions' next' × (overlays names metas' contents' acls' children' owners' sessions' next' applied ≡ record { metas = undone (layers_by_path names metas) k.metas; contents = undone (layers_by_path names contents) k.contents; acls = undone (layers_by_path names acls) k.acls; children = undone (layers_by_path names children) k.children; owners = undone (layers_by_path names owners) k.owners; sessions = undone sessions k.sessions; next = undone next k.next; applied = applied })
-all_undone_is = moved (λ k l. undone l k) (λ names h k l n. undone_by_path names h l k) (λ names h k l n. named_undone names h l k n) (λ j k l m h. record { layers = h.layers; staged = refl })
+all_undone_is = moved (λ K R V k l. undone l k) (λ V names h k l n. undone_by_path names h l k) (λ V names h k l n. named_undone names h l k n) (λ V W j k l m h. record { layers = h.layers; staged = refl })
 
 pub all_sealed_is : (names : Naming) (k : CellsMark) (metas metas' : Layering nat_cmp Meta) (contents contents' : Layering nat_cmp (List ℕ)) (acls acls' : Layering nat_cmp (List Acl)) (children children' : Layering nat_cmp (Unit {0})) (owners owners' : Layering nat_cmp ℕ) (sessions sessions' : Layering nat_cmp Session) (next next' : Layering nat_cmp ℕ) (applied : ℕ) → metas' ≡ sealed metas → contents' ≡ sealed contents → acls' ≡ sealed acls → children' ≡ sealed children → owners' ≡ sealed owners → sessions' ≡ sealed sessions → next' ≡ sealed next → AreHeld names metas contents acls children owners sessions next → AreHeld names metas' contents' acls' children' owners' sessions' next' × (overlays names metas' contents' acls' children' owners' sessions' next' applied ≡ record { metas = sealed (layers_by_path names metas); contents = sealed (layers_by_path names contents); acls = sealed (layers_by_path names acls); children = sealed (layers_by_path names children); owners = sealed (layers_by_path names owners); sessions = sealed sessions; next = sealed next; applied = applied })
-all_sealed_is = moved (λ k l. sealed l) (λ names h k l n. sealed_by_path names h l) (λ names h k l n. named_sealed names h l n) (λ j k l m h. record { layers = omega (arith, h.layers, length-append l.layers (staged_of l ∷ []), length-append m.layers (staged_of m ∷ [])); staged = refl })
+all_sealed_is = moved (λ K R V k l. sealed l) (λ V names h k l n. sealed_by_path names h l) (λ V names h k l n. named_sealed names h l n) (λ V W j k l m h. record { layers = omega (arith, h.layers, length-append l.layers (staged_of l ∷ []), length-append m.layers (staged_of m ∷ [])); staged = refl })
 
 pub all_committed_is : (names : Naming) (k : CellsMark) (metas metas' : Layering nat_cmp Meta) (contents contents' : Layering nat_cmp (List ℕ)) (acls acls' : Layering nat_cmp (List Acl)) (children children' : Layering nat_cmp (Unit {0})) (owners owners' : Layering nat_cmp ℕ) (sessions sessions' : Layering nat_cmp Session) (next next' : Layering nat_cmp ℕ) (applied : ℕ) → metas' ≡ front_committed metas → contents' ≡ front_committed contents → acls' ≡ front_committed acls → children' ≡ front_committed children → owners' ≡ front_committed owners → sessions' ≡ front_committed sessions → next' ≡ front_committed next → AreHeld names metas contents acls children owners sessions next → AreHeld names metas' contents' acls' children' owners' sessions' next' × (overlays names metas' contents' acls' children' owners' sessions' next' applied ≡ record { metas = front_committed (layers_by_path names metas); contents = front_committed (layers_by_path names contents); acls = front_committed (layers_by_path names acls); children = front_committed (layers_by_path names children); owners = front_committed (layers_by_path names owners); sessions = front_committed sessions; next = front_committed next; applied = applied })
-all_committed_is = moved (λ k l. front_committed l) (λ names h k l n. front_committed_by_path names h l n) (λ names h k l n. named_front_committed names h l n) (λ j k l m h. record { layers = omega (arith, h.layers, length-drop 1 l.layers, length-drop 1 m.layers); staged = h.staged })
+all_committed_is = moved (λ K R V k l. front_committed l) (λ V names h k l n. front_committed_by_path names h l n) (λ V names h k l n. named_front_committed names h l n) (λ V W j k l m h. record { layers = omega (arith, h.layers, length-drop 1 l.layers, length-drop 1 m.layers); staged = h.staged })
 
 pub all_dropped_is : (names : Naming) (k : CellsMark) (metas metas' : Layering nat_cmp Meta) (contents contents' : Layering nat_cmp (List ℕ)) (acls acls' : Layering nat_cmp (List Acl)) (children children' : Layering nat_cmp (Unit {0})) (owners owners' : Layering nat_cmp ℕ) (sessions sessions' : Layering nat_cmp Session) (next next' : Layering nat_cmp ℕ) (applied : ℕ) → metas' ≡ back_dropped metas → contents' ≡ back_dropped contents → acls' ≡ back_dropped acls → children' ≡ back_dropped children → owners' ≡ back_dropped owners → sessions' ≡ back_dropped sessions → next' ≡ back_dropped next → AreHeld names metas contents acls children owners sessions next → AreHeld names metas' contents' acls' children' owners' sessions' next' × (overlays names metas' contents' acls' children' owners' sessions' next' applied ≡ record { metas = back_dropped (layers_by_path names metas); contents = back_dropped (layers_by_path names contents); acls = back_dropped (layers_by_path names acls); children = back_dropped (layers_by_path names children); owners = back_dropped (layers_by_path names owners); sessions = back_dropped sessions; next = back_dropped next; applied = applied })
-all_dropped_is = moved (λ k l. back_dropped l) (λ names h k l n. back_dropped_by_path names h l) (λ names h k l n. named_back_dropped names h l n) (λ j k l m h. record { layers = omega (arith, h.layers, length_front l.layers, length_front m.layers); staged = h.staged })
+all_dropped_is = moved (λ K R V k l. back_dropped l) (λ V names h k l n. back_dropped_by_path names h l) (λ V names h k l n. named_back_dropped names h l n) (λ V W j k l m h. record { layers = omega (arith, h.layers, length_front l.layers, length_front m.layers); staged = h.staged })
 
 pub same_parts : (names : Naming) (k : CellsMark) (metas metas' : Layering nat_cmp Meta) (contents contents' : Layering nat_cmp (List ℕ)) (acls acls' : Layering nat_cmp (List Acl)) (children children' : Layering nat_cmp (Unit {0})) (owners owners' : Layering nat_cmp ℕ) (sessions sessions' : Layering nat_cmp Session) (next next' : Layering nat_cmp ℕ) (applied : ℕ) → metas' ≡ metas → contents' ≡ contents → acls' ≡ acls → children' ≡ children → owners' ≡ owners → sessions' ≡ sessions → next' ≡ next → AreHeld names metas contents acls children owners sessions next → AreHeld names metas' contents' acls' children' owners' sessions' next' × (overlays names metas' contents' acls' children' owners' sessions' next' applied ≡ record { metas = (layers_by_path names metas); contents = (layers_by_path names contents); acls = (layers_by_path names acls); children = (layers_by_path names children); owners = (layers_by_path names owners); sessions = sessions; next = next; applied = applied })
-same_parts = moved (λ k l. l) (λ names h k l n. refl) (λ names h k l n. n) (λ j k l m h. h)
+same_parts = moved (λ K R V k l. l) (λ V names h k l n. refl) (λ V names h k l n. n) (λ V W j k l m h. h)
 
 -- names that have grown
 pub after_give : (names names' : Naming) (metas metas' : Layering nat_cmp Meta) (contents contents' : Layering nat_cmp (List ℕ)) (acls acls' : Layering nat_cmp (List Acl)) (children children' : Layering nat_cmp (Unit {0})) (owners owners' : Layering nat_cmp ℕ) (sessions sessions' : Layering nat_cmp Session) (next next' : Layering nat_cmp ℕ) (applied : ℕ) → IsNaming names' → Grows names names' → metas' ≡ metas → contents' ≡ contents → acls' ≡ acls → children' ≡ children → owners' ≡ owners → sessions' ≡ sessions → next' ≡ next → AreHeld names metas contents acls children owners sessions next → AreHeld names' metas' contents' acls' children' owners' sessions' next' × (overlays names' metas' contents' acls' children' owners' sessions' next' applied ≡ overlays names metas contents acls children owners sessions next applied)
@@ -265,3 +266,19 @@ after_owners names names' metas contents acls children owners owners' sessions n
     let w : AreHeld names' metas contents acls children (written owners number value) sessions next × (overlays names' metas contents acls children (written owners number value) sessions next applied ≡ record { metas = layers_by_path names' metas; contents = layers_by_path names' contents; acls = layers_by_path names' acls; children = layers_by_path names' children; owners = written (layers_by_path names' owners) path value; sessions = sessions; next = next; applied = applied }) = owners_written names' metas contents acls children owners sessions next applied path number value is there g.0 in
     let P : Layering nat_cmp ℕ → Type 0 = λ x. AreHeld names' metas contents acls children x sessions next × (overlays names' metas contents acls children x sessions next applied ≡ record { metas = layers_by_path names metas; contents = layers_by_path names contents; acls = layers_by_path names acls; children = layers_by_path names children; owners = written (layers_by_path names owners) path value; sessions = sessions; next = next; applied = applied }) in
     subst P (sym e) (w.0, w.1 ∙ ap (λ o. record { metas = o.metas; contents = o.contents; acls = o.acls; children = o.children; owners = written o.owners path value; sessions = o.sessions; next = o.next; applied = o.applied }) g.1)
+
+-- marks where none are asked for
+pub no_mark : CellsMark
+no_mark = record { metas = 0; contents = 0; acls = 0; children = 0; owners = 0; sessions = 0; next = 0 }
+
+-- each part with its first layer made on its base, and another index
+abbrev pub committed_to : ℕ → Overlays → Overlays
+committed_to applied o = record { metas = front_committed o.metas; contents = front_committed o.contents; acls = front_committed o.acls; children = front_committed o.children; owners = front_committed o.owners; sessions = front_committed o.sessions; next = front_committed o.next; applied = applied }
+
+pub raised_is : (applied : ℕ) (more : Bool) (n : ℕ) → (IsTrue more ↔ (0 < n)) → min (applied + (if more then 1 else 0)) 18446744073709551615 ≡ applied_after applied n
+raised_is applied true n h =
+    let some : 0 < n = h.0 refl in
+    let one : min n 1 ≡ 1 = omega arith in
+    ap (λ k. min (applied + k) 18446744073709551615) (sym one)
+raised_is applied false zero h = refl
+raised_is applied false (suc n) h = absurd (no_number false (h.1 (omega arith)) refl)

@@ -1,14 +1,14 @@
 //! The parts of the tree and the sessions, each under layers of writes.
-ghost use Rattle.std.specs.Prelude.{◌≡◌, ◌<◌, ◌↔◌, ◌==◌, false, Some, None, OnOk, OnErr, IsTrue, option_copied};
+ghost use Rattle.std.specs.Prelude.{◌≡◌, ◌+◌, ◌<◌, ◌↔◌, ◌==◌, min, if◌then◌else◌, false, Some, None, OnOk, OnErr, IsTrue, option_copied};
 ghost use Rattle.std.specs.FinMap as map;
 ghost use Rattle.std.specs.Option.{option_and_then, option_map_or};
 ghost use Rattle.std.specs.Str.{bytes_eq};
-ghost use Rattle.kp_layers.specs.Layering.{latest_of};
+ghost use Rattle.kp_layers.specs.Layering.{latest_of, written};
 ghost use Rattle.kp_model.specs.Path.{is_well_formed, root};
 ghost use Rattle.kp_cells.specs.Overlays.{IsOpen, IsClosed, depth, all_begun, all_sealed, all_abandoned, all_undone, marks_of, all_committed, all_dropped, with_meta, with_content, with_acl, with_child, with_owned, with_owner, with_session, with_next, latest_parts, committed_parts};
 
 use crate::names::Names;
-use crate::pair::{abandon_both, begin_both};
+use crate::pair::{abandon_both, begin_four, begin_three};
 use kp_layers::Layers;
 use kp_model::{Acl, Acls, Bytes, Meta, NoMemory, Session};
 use std::alloc::Global;
@@ -78,6 +78,18 @@ fn committed_at<'a, V>(names: &Names, layers: &'a Layers<V>, path: &str) -> Opti
     match names.get(path) {
         Some(number) => layers.committed(number),
         None => None,
+    }
+}
+
+// The index of the last committed entry, where one more may have been committed. It stands still at
+// its type's end.
+fn raised(applied: u64, more: bool) -> u64
+    ensures { result ≡ min (applied + (if more then 1 else 0)) 18446744073709551615 }
+{
+    if more {
+        applied.saturating_add(1)
+    } else {
+        applied
     }
 }
 
@@ -176,20 +188,15 @@ impl Cells {
         ensures ok { OnOk result (self.new ≡ all_begun self.old) }
         ensures err { OnErr result (self.new ≡ self.old) }
     {
-        begin_both(&mut self.metas, &mut self.contents)?;
-        if begin_both(&mut self.acls, &mut self.children).is_err() {
+        begin_four(
+            &mut self.metas,
+            &mut self.contents,
+            &mut self.acls,
+            &mut self.children,
+        )?;
+        if begin_three(&mut self.owners, &mut self.sessions, &mut self.next).is_err() {
             abandon_both(&mut self.metas, &mut self.contents);
-            return Err(NoMemory);
-        }
-        if begin_both(&mut self.owners, &mut self.sessions).is_err() {
             abandon_both(&mut self.acls, &mut self.children);
-            abandon_both(&mut self.metas, &mut self.contents);
-            return Err(NoMemory);
-        }
-        if self.next.begin().is_err() {
-            abandon_both(&mut self.owners, &mut self.sessions);
-            abandon_both(&mut self.acls, &mut self.children);
-            abandon_both(&mut self.metas, &mut self.contents);
             return Err(NoMemory);
         }
         Ok(())
@@ -267,7 +274,7 @@ impl Cells {
         let _ = self.owners.commit_front();
         let _ = self.sessions.commit_front();
         let _ = self.next.commit_front();
-        self.applied = self.applied.saturating_add(there as u64);
+        self.applied = raised(self.applied, there);
         there
     }
 
@@ -325,6 +332,17 @@ impl Cells {
         Ok(())
     }
 
+    // Sets what stands for the path among its parent's children.
+    fn set_child(&mut self, path: &str, value: Option<()>) -> Result<(), NoMemory>
+        requires open { IsOpen self.old }
+        ensures ok { OnOk result (self.new ≡ record self.old { children = written self.old.children path.now value }) }
+        ensures err { OnErr result (self.new ≡ self.old) }
+    {
+        let number = self.names.give(path)?;
+        self.children.stage(number, value)?;
+        Ok(())
+    }
+
     /// Sets whether the path is among its parent's children.
     pub fn stage_child(&mut self, path: &str, there: bool) -> Result<(), NoMemory>
         requires open { IsOpen self.old }
@@ -333,9 +351,11 @@ impl Cells {
         ensures ok { OnOk result (self.new ≡ with_child self.old path.now there) }
         ensures err { OnErr result (self.new ≡ self.old) }
     {
-        let number = self.names.give(path)?;
-        self.children.stage(number, if there { Some(()) } else { None })?;
-        Ok(())
+        if there {
+            self.set_child(path, Some(()))
+        } else {
+            self.set_child(path, None)
+        }
     }
 
     // Sets the session that owns the path.

@@ -3,7 +3,9 @@
 #![tactic(auto)]
 
 mod cells;
+mod change;
 mod names;
 mod pair;
 
 pub use cells::{Cells, CellsMark};
+pub use change::{Change, Changes, NodeValue};

@@ -7,15 +7,16 @@ use Rattle.std.specs.Ordering.{nat_cmp}
 use Rattle.std.specs.FinMap.{get}
 use Rattle.std.proofs.lemmas.Grind.{common_steps}
 use Rattle.kp_layers.specs.Layering.{Layering, staged_of, begun, written, undone, sealed, abandoned, front_committed, back_dropped, empty_layering}
+use Rattle.kp_model.specs.State.{path_cmp}
 use Rattle.kp_model.specs.declared.node.Acl.{Acl}
 use Rattle.kp_model.specs.declared.node.Meta.{Meta}
 use Rattle.kp_model.specs.declared.session.Session.{Session}
 use Rattle.kp_cells.specs.declared.cells.CellsMark.{CellsMark}
 use Rattle.kp_cells.specs.Naming.{Naming, IsNaming, IsNamed, Grows, Knows, layers_by_path}
-use Rattle.kp_cells.specs.Overlays.{Overlays, applied_after}
+use Rattle.kp_cells.specs.Overlays.{Overlays, applied_after, blank_overlays}
 use Rattle.kp_cells.specs.Held.{overlays, AreAlike, AreHeld}
 use Rattle.kp_cells.proofs.Named.{no_number}
-use Rattle.kp_cells.proofs.ByPath.{written_by_path, sealed_by_path, undone_by_path, back_dropped_by_path, front_committed_by_path, named_written, named_begun, named_abandoned, named_sealed, named_undone, named_back_dropped, named_front_committed, grown_by_path, grown_named}
+use Rattle.kp_cells.proofs.ByPath.{written_by_path, sealed_by_path, undone_by_path, back_dropped_by_path, front_committed_by_path, named_written, named_begun, named_abandoned, named_sealed, named_undone, named_back_dropped, named_front_committed, named_empty, by_path_empty, grown_by_path, grown_named}
 
 -- where the parts say that a layer is open, or that none is
 pub is_open : {A B : Type 0} (f : A → B) (o : Option A) → IsSome (option_map f o) → IsSome o
@@ -282,3 +283,30 @@ raised_is applied true n h =
     ap (λ k. min (applied + k) 18446744073709551615) (sym one)
 raised_is applied false zero h = refl
 raised_is applied false (suc n) h = absurd (no_number false (h.1 (omega arith)) refl)
+
+empty_held : (names : Naming) → IsNaming names → AreHeld names empty_layering empty_layering empty_layering empty_layering empty_layering empty_layering empty_layering
+empty_held names h = record {
+  naming = h;
+  metas_named = named_empty names h;
+  contents_named = named_empty names h;
+  acls_named = named_empty names h;
+  children_named = named_empty names h;
+  owners_named = named_empty names h;
+  contents_alike = record { layers = refl; staged = refl };
+  acls_alike = record { layers = refl; staged = refl };
+  children_alike = record { layers = refl; staged = refl };
+  owners_alike = record { layers = refl; staged = refl };
+  sessions_alike = record { layers = refl; staged = refl };
+  next_alike = record { layers = refl; staged = refl };
+}
+
+-- parts without layers and entries
+pub blank_is : (names : Naming) (metas' : Layering nat_cmp Meta) (contents' : Layering nat_cmp (List ℕ)) (acls' : Layering nat_cmp (List Acl)) (children' : Layering nat_cmp (Unit {0})) (owners' : Layering nat_cmp ℕ) (sessions' : Layering nat_cmp Session) (next' : Layering nat_cmp ℕ) → metas' ≡ empty_layering → contents' ≡ empty_layering → acls' ≡ empty_layering → children' ≡ empty_layering → owners' ≡ empty_layering → sessions' ≡ empty_layering → next' ≡ empty_layering → IsNaming names → AreHeld names metas' contents' acls' children' owners' sessions' next' × (overlays names metas' contents' acls' children' owners' sessions' next' 0 ≡ blank_overlays)
+blank_is names metas' contents' acls' children' owners' sessions' next' e_metas e_contents e_acls e_children e_owners e_sessions e_next h =
+    let parts : AreHeld names metas' contents' acls' children' owners' sessions' next' × (overlays names metas' contents' acls' children' owners' sessions' next' 0 ≡ overlays names empty_layering empty_layering empty_layering empty_layering empty_layering empty_layering empty_layering 0) = same_parts names no_mark empty_layering metas' empty_layering contents' empty_layering acls' empty_layering children' empty_layering owners' empty_layering sessions' empty_layering next' 0 e_metas e_contents e_acls e_children e_owners e_sessions e_next (empty_held names h) in
+    let none_metas : ◌≡◌ {A = Layering path_cmp Meta} (layers_by_path names empty_layering) empty_layering = λ i. record { base = by_path_empty names i; layers = []; staged = None } in
+    let none_contents : ◌≡◌ {A = Layering path_cmp (List ℕ)} (layers_by_path names empty_layering) empty_layering = λ i. record { base = by_path_empty names i; layers = []; staged = None } in
+    let none_acls : ◌≡◌ {A = Layering path_cmp (List Acl)} (layers_by_path names empty_layering) empty_layering = λ i. record { base = by_path_empty names i; layers = []; staged = None } in
+    let none_children : ◌≡◌ {A = Layering path_cmp (Unit {0})} (layers_by_path names empty_layering) empty_layering = λ i. record { base = by_path_empty names i; layers = []; staged = None } in
+    let none_owners : ◌≡◌ {A = Layering path_cmp ℕ} (layers_by_path names empty_layering) empty_layering = λ i. record { base = by_path_empty names i; layers = []; staged = None } in
+    (parts.0, parts.1 ∙ (λ i. record { metas = none_metas i; contents = none_contents i; acls = none_acls i; children = none_children i; owners = none_owners i; sessions = empty_layering; next = empty_layering; applied = 0 }))

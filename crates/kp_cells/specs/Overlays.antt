@@ -4,11 +4,12 @@ use Rattle.std.specs.Option.{option_map_or}
 use Rattle.std.specs.Ordering.{nat_cmp}
 use Rattle.std.specs.FinMap as map
 use Rattle.std.specs.declared.cmp.Ordering.{Ordering}
-use Rattle.kp_layers.specs.Layering.{Layering, latest_of, staged_of, overlay_all, begun, written, undone, sealed, abandoned, front_committed, back_dropped}
+use Rattle.kp_layers.specs.Layering.{Layering, latest_of, staged_of, overlay_all, begun, written, undone, sealed, abandoned, front_committed, back_dropped, empty_layering}
 use Rattle.kp_model.specs.declared.node.Acl.{Acl}
 use Rattle.kp_model.specs.declared.node.Meta.{Meta}
 use Rattle.kp_model.specs.declared.session.Session.{Session}
-use Rattle.kp_model.specs.State.{State, path_cmp}
+use Rattle.kp_model.specs.State.{State, path_cmp, meta_of, blank_node, open_acl}
+use Rattle.kp_model.specs.Path.{root}
 use Rattle.kp_cells.specs.declared.cells.CellsMark.{CellsMark}
 use Rattle.kp_cells.specs.Parts.{Parts, whole}
 
@@ -156,3 +157,19 @@ settled_part m = record { base = m; layers = []; staged = None }
 -- the parts of a state with no layers on them
 abbrev pub settled : ℕ → Parts → Overlays
 settled applied p = record { metas = settled_part p.metas; contents = settled_part p.contents; acls = settled_part p.acls; children = settled_part p.children; owners = settled_part p.owners; sessions = settled_part p.sessions; next = settled_part (map.insert map.empty 0 p.next); applied = applied }
+
+-- no nodes, no sessions and no layers
+abbrev pub blank_overlays : Overlays
+blank_overlays = record { metas = empty_layering; contents = empty_layering; acls = empty_layering; children = empty_layering; owners = empty_layering; sessions = empty_layering; next = empty_layering; applied = 0 }
+
+-- the parts of the root alone: it has no data, gives every right to everyone, and all its numbers are 0
+abbrev pub root_parts : Parts
+root_parts = record {
+  metas = map.insert map.empty root (meta_of 0 blank_node);
+  contents = map.insert map.empty root [];
+  acls = map.insert map.empty root open_acl;
+  children = map.empty;
+  owners = map.empty;
+  sessions = map.empty;
+  next = 1;
+}

@@ -1,16 +1,17 @@
 //! The parts of the tree and the sessions, each under layers of writes.
-ghost use Rattle.std.specs.Prelude.{◌≡◌, ◌+◌, ◌<◌, ◌↔◌, ◌==◌, min, if◌then◌else◌, false, Some, None, OnOk, OnErr, IsTrue, option_copied};
+ghost use Rattle.std.specs.Prelude.{◌≡◌, [], IfOk, ◌+◌, ◌<◌, ◌↔◌, ◌==◌, min, if◌then◌else◌, false, Some, None, OnOk, OnErr, IsTrue, option_copied};
 ghost use Rattle.std.specs.FinMap as map;
 ghost use Rattle.std.specs.Option.{option_and_then, option_map_or};
 ghost use Rattle.std.specs.Str.{bytes_eq};
 ghost use Rattle.kp_layers.specs.Layering.{latest_of, written};
 ghost use Rattle.kp_model.specs.Path.{is_well_formed, root};
-ghost use Rattle.kp_cells.specs.Overlays.{IsOpen, IsClosed, depth, all_begun, all_sealed, all_abandoned, all_undone, marks_of, all_committed, all_dropped, with_meta, with_content, with_acl, with_child, with_owned, with_owner, with_session, with_next, latest_parts, committed_parts};
+ghost use Rattle.kp_cells.specs.Overlays.{IsOpen, IsClosed, depth, all_begun, all_sealed, all_abandoned, all_undone, marks_of, all_committed, all_dropped, with_meta, with_content, with_acl, with_child, with_owned, with_owner, with_session, with_next, latest_parts, committed_parts, settled, root_parts, blank_overlays};
+ghost use Rattle.kp_model.specs.State.{meta_of, blank_node, open_acl};
 
 use crate::names::Names;
 use crate::pair::{abandon_both, begin_four, begin_three};
 use kp_layers::Layers;
-use kp_model::{Acl, Acls, Bytes, Meta, NoMemory, Session};
+use kp_model::{Acl, Acls, Bytes, Meta, NoMemory, Session, Text};
 use std::alloc::Global;
 use std::marker::Model;
 
@@ -93,7 +94,91 @@ fn raised(applied: u64, more: bool) -> u64
     }
 }
 
+// The access list that gives every right to everyone.
+fn everyones_acl(alloc: Global) -> Result<Acls, NoMemory>
+    ensures { IfOk result (λ acl. acl ≡ open_acl) }
+{
+    let mut acl = Acls::new(alloc);
+    acl.push(Acl {
+        perms: 31,
+        scheme: Text::from_str(alloc, "world")?,
+        id: Text::from_str(alloc, "anyone")?,
+    })?;
+    Ok(acl)
+}
+
+// What is shown of a node that no entry made.
+fn blank_meta() -> Meta
+    ensures { result ≡ meta_of 0 blank_node }
+{
+    Meta {
+        czxid: 0,
+        mzxid: 0,
+        pzxid: 0,
+        ctime: 0,
+        mtime: 0,
+        version: 0,
+        cversion: 0,
+        aversion: 0,
+        owner: 0,
+        created: 0,
+        len: 0,
+        kids: 0,
+    }
+}
+
 impl Cells {
+    /// The root alone, and no session. Later growth takes memory from `alloc`.
+    pub fn new(alloc: Global) -> Result<Cells, NoMemory>
+        ensures { IfOk result (λ cells. cells ≡ settled 0 root_parts) }
+    {
+        let mut cells = Cells::blank(alloc)?;
+        cells.begin()?;
+        cells.stage_root(alloc)?;
+        cells.seal();
+        let _ = cells.commit_front();
+        cells.applied = 0;
+        Ok(cells)
+    }
+
+    // No nodes and no sessions.
+    fn blank(alloc: Global) -> Result<Cells, NoMemory>
+        ensures { IfOk result (λ cells. cells ≡ blank_overlays) }
+    {
+        let metas = Layers::new(alloc)?;
+        let contents = Layers::new(alloc)?;
+        let acls = Layers::new(alloc)?;
+        let children = Layers::new(alloc)?;
+        let owners = Layers::new(alloc)?;
+        let sessions = Layers::new(alloc)?;
+        let next = Layers::new(alloc)?;
+        Ok(Cells {
+            alloc,
+            names: Names::new(alloc),
+            metas,
+            contents,
+            acls,
+            children,
+            owners,
+            sessions,
+            next,
+            applied: 0,
+        })
+    }
+
+    // Stages the root and the first session number.
+    #[tactic(auto, unfolding(kp_model::specs::Path::is_well_formed))]
+    fn stage_root(&mut self, alloc: Global) -> Result<(), NoMemory>
+        requires { IsOpen self.old }
+        ensures { OnOk result (self.new ≡ with_next (with_acl (with_content (with_meta self.old root (Some (meta_of 0 blank_node))) root (Some [])) root (Some open_acl)) 1) }
+    {
+        self.stage_meta("/", Some(blank_meta()))?;
+        self.stage_content("/", Some(Bytes::new(alloc)))?;
+        let acl = everyones_acl(alloc)?;
+        self.stage_acl("/", Some(acl))?;
+        self.stage_next(1)
+    }
+
     /// What is shown of the node at the path under all layers.
     pub fn latest_meta(&self, path: &str) -> Option<&Meta>
         ensures { option_copied result ≡ map.get (latest_of self.now.metas) path.now }

@@ -4,11 +4,13 @@ use Rattle.std.specs.Option.{option_map_or}
 use Rattle.std.specs.Ordering.{nat_cmp}
 use Rattle.std.specs.FinMap as map
 use Rattle.std.specs.declared.cmp.Ordering.{Ordering}
-use Rattle.kp_layers.specs.Layering.{Layering, latest_of, staged_of, overlay_all, begun, written, undone, sealed, abandoned, front_committed, back_dropped}
+use Rattle.kp_layers.specs.Layering.{Layering, latest_of, staged_of, overlay_all, begun, written, undone, sealed, abandoned, front_committed, back_dropped, empty_layering}
 use Rattle.kp_model.specs.declared.node.Acl.{Acl}
 use Rattle.kp_model.specs.declared.node.Meta.{Meta}
 use Rattle.kp_model.specs.declared.session.Session.{Session}
-use Rattle.kp_model.specs.State.{State, path_cmp}
+use Rattle.kp_model.specs.State.{State, path_cmp, meta_of, blank_node, open_acl}
+use Rattle.kp_model.specs.Path.{root}
+use Rattle.kp_cells.specs.declared.cells.CellsMark.{CellsMark}
 use Rattle.kp_cells.specs.Parts.{Parts, whole}
 
 -- the layers of each part, by path or by session, and the index of the last entry that was made part of the bases
@@ -22,16 +24,6 @@ pub record Overlays : Type 0 where
   -- the next session number, at the key 0
   pub next : Layering nat_cmp ℕ
   pub applied : ℕ
-
--- how many writes the open layer of each part had
-pub record Marks : Type 0 where
-  pub metas : ℕ
-  pub contents : ℕ
-  pub acls : ℕ
-  pub children : ℕ
-  pub owners : ℕ
-  pub sessions : ℕ
-  pub next : ℕ
 
 -- a layer is open, in all parts alike
 abbrev pub IsOpen : Overlays → Type 0
@@ -139,11 +131,11 @@ abbrev pub all_abandoned : Overlays → Overlays
 all_abandoned o = record { metas = abandoned o.metas; contents = abandoned o.contents; acls = abandoned o.acls; children = abandoned o.children; owners = abandoned o.owners; sessions = abandoned o.sessions; next = abandoned o.next; applied = o.applied }
 
 -- how many writes the open layer of each part has
-abbrev pub marks_of : Overlays → Marks
+abbrev pub marks_of : Overlays → CellsMark
 marks_of o = record { metas = length (staged_of o.metas); contents = length (staged_of o.contents); acls = length (staged_of o.acls); children = length (staged_of o.children); owners = length (staged_of o.owners); sessions = length (staged_of o.sessions); next = length (staged_of o.next) }
 
 -- each part with the first so many writes of its open layer
-abbrev pub all_undone : Overlays → Marks → Overlays
+abbrev pub all_undone : Overlays → CellsMark → Overlays
 all_undone o m = record { metas = undone o.metas m.metas; contents = undone o.contents m.contents; acls = undone o.acls m.acls; children = undone o.children m.children; owners = undone o.owners m.owners; sessions = undone o.sessions m.sessions; next = undone o.next m.next; applied = o.applied }
 
 -- the applied index is one more where a layer was sealed; it stands still at its type's end
@@ -165,3 +157,19 @@ settled_part m = record { base = m; layers = []; staged = None }
 -- the parts of a state with no layers on them
 abbrev pub settled : ℕ → Parts → Overlays
 settled applied p = record { metas = settled_part p.metas; contents = settled_part p.contents; acls = settled_part p.acls; children = settled_part p.children; owners = settled_part p.owners; sessions = settled_part p.sessions; next = settled_part (map.insert map.empty 0 p.next); applied = applied }
+
+-- no nodes, no sessions and no layers
+abbrev pub blank_overlays : Overlays
+blank_overlays = record { metas = empty_layering; contents = empty_layering; acls = empty_layering; children = empty_layering; owners = empty_layering; sessions = empty_layering; next = empty_layering; applied = 0 }
+
+-- the parts of the root alone: it has no data, gives every right to everyone, and all its numbers are 0
+abbrev pub root_parts : Parts
+root_parts = record {
+  metas = map.insert map.empty root (meta_of 0 blank_node);
+  contents = map.insert map.empty root [];
+  acls = map.insert map.empty root open_acl;
+  children = map.empty;
+  owners = map.empty;
+  sessions = map.empty;
+  next = 1;
+}

@@ -63,3 +63,29 @@ abbrev pub IsDoneOrNoMemory : Status → Type 0
 IsDoneOrNoMemory status.Done = ⊤
 IsDoneOrNoMemory status.NoMemory = ⊤
 IsDoneOrNoMemory _ = ⊥
+
+-- line n was the first outside the grammar, or memory ran out
+abbrev pub IsBadLineOrNoMemory : ℕ → Status → Type 0
+IsBadLineOrNoMemory n (status.BadLine m) = m ≡ n
+IsBadLineOrNoMemory n status.NoMemory = ⊤
+IsBadLineOrNoMemory n _ = ⊥
+
+-- the input was too long, or memory ran out
+abbrev pub IsTooLongOrNoMemory : Status → Type 0
+IsTooLongOrNoMemory status.TooLong = ⊤
+IsTooLongOrNoMemory status.NoMemory = ⊤
+IsTooLongOrNoMemory _ = ⊥
+
+-- the number that the program ends with
+abbrev pub code_of : Status → ℕ
+code_of status.Done = 0
+code_of status.Usage = 2
+code_of (status.BadLine n) = 3
+code_of status.ReadFault = 4
+code_of status.WriteFault = 5
+code_of status.NoMemory = 6
+code_of status.DiskFault = 7
+code_of (status.Damaged slot at) = 8
+code_of status.NetFault = 9
+code_of status.TooLong = 10
+code_of (status.Full slot len) = 11

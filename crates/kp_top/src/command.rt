@@ -1,9 +1,9 @@
-ghost use Rattle.std.specs.Prelude.{◌≡◌, ◌≤◌, ◌↔◌, false, true, List, ℕ, length, Some, None, IfSome, map, string_bytes};
+ghost use Rattle.std.specs.Prelude.{◌≡◌, ◌<◌, ◌≤◌, ◌↔◌, false, true, List, ℕ, length, Some, None, IfSome, map, string_bytes};
 ghost use Rattle.std.specs.Io.KnownBytes.{Keeps, IsAtEnd};
 ghost use Rattle.kp_io.specs.Faults.{one_more, Rose};
 ghost use Rattle.kp_top.specs.Output.{WroteAll, WrotePart, TookMore, TookWithin};
 ghost use Rattle.kp_top.specs.Transcript.{transcript, bad_line};
-ghost use Rattle.kp_top.specs.Run.{IsOfStore, IsBeforeLines, IsBehindInput, IsDoneOrNoMemory, is_store_command};
+ghost use Rattle.kp_top.specs.Run.{IsOfStore, IsBeforeLines, IsBehindInput, IsDoneOrNoMemory, IsBadLineOrNoMemory, IsTooLongOrNoMemory, is_store_command};
 
 use crate::status::Status;
 use crate::store::run_store;
@@ -62,9 +62,13 @@ pub fn run_command<S: Source, W: Sink, H: Disk>(
     ensures nothing { IsBeforeLines result → Keeps (W.held output.old) (W.held output.new) }
     ensures others { IsOfStore result }
 
-    // Where nothing of this stands against it, all is done, or memory ran out.
+    // Where nothing of this stands against it, all is done, the bad line is named, or the input is too long; or memory ran out.
     ensures complete { (text : List ℕ) → is_store_command (map string_bytes words.now) ≡ true → S.left input.old ≡ Some text
         → length text ≤ 67108864 → bad_line text ≡ None → ¬ (Rose (S.faults input.old) (S.faults input.new)) → ¬ (Rose (W.faults output.old) (W.faults output.new)) → IsDoneOrNoMemory result }
+    ensures complete_bad { (text : List ℕ) (n : ℕ) → is_store_command (map string_bytes words.now) ≡ true → S.left input.old ≡ Some text
+        → length text ≤ 67108864 → bad_line text ≡ Some n → ¬ (Rose (S.faults input.old) (S.faults input.new)) → ¬ (Rose (W.faults output.old) (W.faults output.new)) → IsBadLineOrNoMemory n result }
+    ensures complete_long { (text : List ℕ) → is_store_command (map string_bytes words.now) ≡ true → S.left input.old ≡ Some text
+        → 67108864 < length text → ¬ (Rose (S.faults input.old) (S.faults input.new)) → IsTooLongOrNoMemory result }
 {
     if !is_store(words) {
         return Status::Usage;

@@ -1,3 +1,5 @@
+ghost use Rattle.std.specs.Prelude.{◌≡◌};
+
 /// How a command ended. The program ends with the number that `code` tells.
 #[derive(Debug, Drop)]
 pub enum Status {
@@ -26,8 +28,12 @@ pub enum Status {
 }
 
 impl Status {
+    ghost use Rattle.kp_top.specs.Run.{code_of};
+
     /// The number that the program ends with.
-    pub fn code(&self) -> u8 {
+    pub fn code(&self) -> u8
+        ensures { result ≡ code_of self.now }
+    {
         match self {
             Status::Done => 0,
             Status::Usage => 2,

@@ -5,7 +5,7 @@ use kp_io::{FaultySink, FaultySource, MemorySink, MemorySource, Seven, Sink, Sou
 use std::alloc::{AllocError, Global};
 use std::test::Fail;
 
-/// Lines, what they must print, and the name of the status that they must end in.
+/// Lines, what they must print, and the number and name of the status that they must end in.
 struct Row {
     lines: &'static str,
     output: &'static str,
@@ -16,31 +16,31 @@ const ROWS: [Row; 5] = [
     Row {
         lines: "open 30000 00000000000000000000000000000000\ncreate 1 /a 0 6869\npeek /a\nsee /a\ncommit\ncommit\nsee /a\n",
         output: "pre 1 ok session=1\npre 2 ok path=/a\npeek 6869 cz=2 mz=2 pz=2 ct=0 mt=0 v=0 cv=0 av=0 own=0 len=2 kids=0\nsee none\ndone 1 ok session=1\ndone 2 ok path=/a\nsee 6869 cz=2 mz=2 pz=2 ct=0 mt=0 v=0 cv=0 av=0 own=0 len=2 kids=0\n",
-        status: "Done",
+        status: "0 Done",
     },
     Row {
         lines: "",
         output: "",
-        status: "Done",
+        status: "0 Done",
     },
     Row {
         lines: "noop\nfoo\n",
         output: "pre 1 ok\n",
-        status: "BadLine { n: 2 }",
+        status: "3 BadLine { n: 2 }",
     },
     Row {
         lines: "open 30000 00000000000000000000000000000000\ncreate 1 /a 0 -\ncreate 1 /a 0 -\ncommit\ncommit\ncommit",
         output: "pre 1 ok session=1\npre 2 ok path=/a\npre 3 err=-110\ndone 1 ok session=1\ndone 2 ok path=/a\ndone 3 err=-110\n",
-        status: "Done",
+        status: "0 Done",
     },
     Row {
         lines: "open 30000 00000000000000000000000000000000\ncommit\ncommit\ntruncate 0\ntruncate 2\ntruncate 1\n",
         output: "pre 1 ok session=1\ndone 1 ok session=1\ndone none\ncut refused\ncut refused\ncut 1\n",
-        status: "Done",
+        status: "0 Done",
     },
 ];
 
-/// The name of the status in which these words end, over this input and output.
+/// The number and the name of the status in which these words end, over this input and output.
 fn end_of<S: Source, W: Sink>(
     alloc: Global,
     words: &str,
@@ -53,7 +53,8 @@ fn end_of<S: Source, W: Sink>(
     }
     let mut homes = Seven::blank(alloc);
     let status: Status = run_command(alloc, list.as_slice(), input, output, &mut homes);
-    format!(in alloc; "{status:?}")
+    let code = status.code();
+    format!(in alloc; "{code} {status:?}")
 }
 
 fn source(alloc: Global, text: &str, piece: usize) -> Result<MemorySource, AllocError>
@@ -84,7 +85,7 @@ fn other_words_are_no_command(rt: HostRuntime) -> Result<(), Fail> {
         let mut input = source(alloc, "noop\n", 4096)?;
         let mut output = MemorySink::new(alloc, 4096);
         let status = end_of(alloc, words, &mut input, &mut output)?;
-        assert_eq!(rt; status.as_str(), "Usage", "{words}");
+        assert_eq!(rt; status.as_str(), "2 Usage", "{words}");
         assert_eq!(rt; output.bytes(), b"".as_slice(), "{words}");
     }
     Ok(())
@@ -96,14 +97,14 @@ fn faults_end_a_run(rt: HostRuntime) -> Result<(), Fail> {
     let mut input = source(alloc, "noop\nnoop\n", 4096)?;
     let mut output = FaultySink::new(alloc, 4096, vec![in alloc; 2]?);
     let status = end_of(alloc, "store", &mut input, &mut output)?;
-    assert_eq!(rt; status.as_str(), "WriteFault");
+    assert_eq!(rt; status.as_str(), "5 WriteFault");
     assert_eq!(rt; output.bytes(), b"pre 1 ok\n".as_slice());
 
     let text = Vec::from_slice(alloc, b"noop\nnoop\n")?;
     let mut input = FaultySource::new(text, 3, vec![in alloc; 3]?);
     let mut output = MemorySink::new(alloc, 4096);
     let status = end_of(alloc, "store", &mut input, &mut output)?;
-    assert_eq!(rt; status.as_str(), "ReadFault");
+    assert_eq!(rt; status.as_str(), "4 ReadFault");
     assert_eq!(rt; output.bytes(), b"".as_slice());
     Ok(())
 }
@@ -118,7 +119,7 @@ fn one_byte_too_many_is_too_long(rt: HostRuntime) -> Result<(), Fail> {
     let mut input = MemorySource::new(spaces(alloc, 67108865)?, usize::MAX);
     let mut output = MemorySink::new(alloc, 4096);
     let status = end_of(alloc, "store", &mut input, &mut output)?;
-    assert_eq!(rt; status.as_str(), "TooLong");
+    assert_eq!(rt; status.as_str(), "10 TooLong");
     assert_eq!(rt; output.bytes(), b"".as_slice());
     Ok(())
 }

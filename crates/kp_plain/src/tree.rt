@@ -9,7 +9,7 @@ ghost use Rattle.kp_model.specs.Path.{parent as parent_of};
 ghost use Rattle.kp_plain.specs.Outcomes.{outcome, data_set};
 ghost use Rattle.kp_plain.specs.Built.{is_built, is_built_cmd};
 
-use crate::answer::{one, replied, two, Answer};
+use crate::answer::{Answer, one, replied, two};
 use crate::change::{count_made, count_removed, new_node, shown, shown_count, with_data};
 use crate::checks::{create_fails, delete_fails, version_fails};
 use crate::nodes::Nodes;
@@ -81,7 +81,11 @@ fn made_reply(alloc: Global, path: &Text, meta: Meta, with_stat: bool) -> Result
     ensures { IfOk result (λ reply. reply ≡ cond with_stat (Reply.PathStat path.now meta) (Reply.Path path.now)) }
 {
     let path = path.copy(alloc)?;
-    Ok(if with_stat { Reply::PathStat(path, meta) } else { Reply::Path(path) })
+    Ok(if with_stat {
+        Reply::PathStat(path, meta)
+    } else {
+        Reply::Path(path)
+    })
 }
 
 impl Tree {

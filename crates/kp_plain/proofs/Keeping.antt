@@ -1,9 +1,9 @@
 -- What the store keeps, through its calls.
-use Rattle.std.proofs.Common.{◌≡◌, Some, get_or, sym, subst, ℕ, ◌+◌, ◌<◌, ◌≤◌, List, [], ◌∷◌, ◌++◌, zero, suc, length, take, drop, arith, length-append}
+use Rattle.std.proofs.Common.{◌≡◌, Some, get_or, sym, subst, ℕ, ◌+◌, ◌<◌, ◌≤◌, List, [], ◌∷◌, ◌++◌, zero, suc, length, arith, length-append}
 use Rattle.std.specs.FinMap as map
 use Rattle.std.specs.List.{All}
 use Rattle.std.proofs.lemmas.Bool.Decides.{nat_tests}
-use Rattle.std.proofs.lemmas.List.Elements.{All-append, All-take, All-drop}
+use Rattle.std.proofs.lemmas.List.Elements.{All-append}
 use Rattle.std.proofs.lemmas.List.Sums.{list_all-from_AllPass}
 use Rattle.kp_model.specs.Grammar.{is_entry}
 use Rattle.kp_model.specs.Good.{IsSound}

@@ -1,14 +1,11 @@
 -- Replays, entry by entry.
-use Rattle.std.proofs.Common.{◌≡◌, ℕ, zero, suc, ◌+◌, ◌<◌, ◌≤◌, List, [], ◌∷◌, length, take, drop, get_or, slice_get, Option, Some, None, refl, sym, ap, subst, ◌∙◌, arith, add-one, drop_of_length-le, length-take-le}
+use Rattle.std.proofs.Common.{◌≡◌, ℕ, zero, suc, ◌+◌, ◌<◌, ◌≤◌, List, [], ◌∷◌, length, take, drop, get_or, slice_get, Some, None, refl, sym, ap, ◌∙◌, arith, add-one, drop_of_length-le, length-take-le}
 use Rattle.std.proofs.Math.Seq.{drop-cons}
 use Rattle.std.specs.Option.{option_map}
-use Rattle.std.specs.Prelude.{All, ◌^◌}
 use Rattle.kp_model.specs.State.{State}
-use Rattle.kp_model.specs.Good.{IsSound}
 use Rattle.kp_model.specs.LogEntry.{LogEntry}
 use Rattle.kp_model.specs.Step.{apply, Outcome}
 use Rattle.kp_model.specs.Store.{Store, after, outcome_in, committed_as, commit_answer, commit_leaves}
-use Rattle.kp_model.specs.declared.reply.Reply.{Reply}
 use Rattle.kp_model.proofs.Applied.{applied-apply, applied-after}
 use Rattle.kp_plain.specs.Outcomes.{outcome}
 use Rattle.kp_plain.specs.declared.answer.Answer.{Answer}

@@ -1,12 +1,12 @@
 -- A list in the order of its keys, as a finite map.
-use Rattle.std.proofs.Common.{◌≡◌, Bool, true, false, not, cond, None, T, ℕ, ◌+◌, count_by, arith, List, [], ◌∷◌, length, map, ◌||◌, Option, Ordering, refl, sym, ap, subst, ◌∙◌}
+use Rattle.std.proofs.Common.{◌≡◌, Bool, true, false, not, cond, None, T, count_by, List, [], ◌∷◌, length, map, ◌||◌, Ordering, refl, sym, ap, subst, ◌∙◌}
 use Rattle.std.specs.Bool.{IsTrue}
 use Rattle.std.specs.Cmp.{IsTotalOrder}
 use Rattle.std.specs.List.{list_any, filter}
 use Rattle.std.proofs.lemmas.List.Sums.{length-filter}
 use Rattle.std.proofs.lemmas.List.{length-map}
 use Rattle.std.specs.FinMap as fin
-use Rattle.std.specs.FinMap.{FinMap, IsAntisymmetric, find, put, is_sorted, from_sorted, same_entries_map, entries-from_sorted, empty_of_len, len-entries, entries-insert, get-from_sorted}
+use Rattle.std.specs.FinMap.{IsAntisymmetric, find, put, is_sorted, from_sorted, same_entries_map, entries-from_sorted, empty_of_len, len-entries, entries-insert, get-from_sorted}
 use Rattle.std.specs.FinMap.Entries.{is_sorted-put, where_key, is_sorted-where_key, find-where_key}
 use Rattle.std.specs.Ordering.{eq_by_cmp, is_eq}
 use Rattle.std.specs.Cmp.{alike_right, eq_by_cmp_equiv}

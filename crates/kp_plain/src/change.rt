@@ -1,10 +1,10 @@
 ghost use Rattle.std.specs.Prelude.{◌≡◌, ◌≤◌, length, min, IfOk, OnOk};
 ghost use Rattle.std.specs.FinMap as map;
 ghost use Rattle.kp_model.specs.Step as step;
-ghost use Rattle.kp_model.specs.State.{meta_of};
+ghost use Rattle.kp_model.specs.State.{blank_node, meta_of};
 
 use crate::nodes::Nodes;
-use kp_model::{Acls, Bytes, Meta, NoMemory, Node, Text};
+use kp_model::{Acl, Acls, Bytes, Items, Meta, NoMemory, Node, Text};
 use std::alloc::Global;
 
 /// The most that a count of 31 bits holds.
@@ -63,6 +63,32 @@ pub fn new_node(
         pzxid: index,
         ctime: time,
         mtime: time,
+        version: 0,
+        cversion: 0,
+        aversion: 0,
+        owner: 0,
+        created: 0,
+    })
+}
+
+/// The root of the empty tree, which gives every right to everyone.
+pub fn blank_root(alloc: Global) -> Result<Node, NoMemory>
+    ensures { IfOk result (λ node. node ≡ blank_node) }
+{
+    let mut acl = Items::new(alloc);
+    acl.push(Acl {
+        perms: 31,
+        scheme: Text::from_str(alloc, "world")?,
+        id: Text::from_str(alloc, "anyone")?,
+    })?;
+    Ok(Node {
+        bytes: Bytes::new(alloc),
+        acl,
+        czxid: 0,
+        mzxid: 0,
+        pzxid: 0,
+        ctime: 0,
+        mtime: 0,
         version: 0,
         cversion: 0,
         aversion: 0,

@@ -5,10 +5,10 @@ ghost use Rattle.kp_model.specs.Path.{parent as parent_of};
 
 use crate::nodes::Nodes;
 use crate::path::is_well_formed;
-use crate::rights::{is_allowed, CREATE, DELETE};
+use crate::rights::{CREATE, DELETE, is_allowed};
 use kp_model::errors::{
-    BAD_ARGUMENTS, BAD_VERSION, NODE_EXISTS, NOT_EMPTY, NO_AUTH, NO_CHILDREN_FOR_EPHEMERALS,
-    NO_NODE,
+    BAD_ARGUMENTS, BAD_VERSION, NO_AUTH, NO_CHILDREN_FOR_EPHEMERALS, NO_NODE, NODE_EXISTS,
+    NOT_EMPTY,
 };
 use kp_model::{Paths, Text};
 
@@ -58,13 +58,7 @@ fn may_delete(nodes: &Nodes, up: &Text, ids: &Paths) -> bool
 
 /// The first check that a deletion fails, as its error code. `up` is the parent of the path.
 #[tactic(auto, unfolding(kp_model::specs::Step::delete_fails))]
-pub fn delete_fails(
-    nodes: &Nodes,
-    ids: &Paths,
-    path: &Text,
-    up: &Text,
-    version: u32,
-) -> Option<i32>
+pub fn delete_fails(nodes: &Nodes, ids: &Paths, path: &Text, up: &Text, version: u32) -> Option<i32>
     requires { up.now ≡ parent_of path.now }
     ensures { result ≡ step.delete_fails nodes.now ids.now path.now version }
 {

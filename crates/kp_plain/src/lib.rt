@@ -11,6 +11,8 @@ mod rights;
 mod sessions;
 mod sorted;
 mod store;
+#[cfg(test)]
+mod tests;
 mod tree;
 
 pub use store::PlainStore;

@@ -3,14 +3,16 @@ ghost use Rattle.std.specs.Option.{option_copied};
 ghost use Rattle.std.specs.FinMap as map;
 ghost use Rattle.kp_model.specs.Good.{IsSound};
 ghost use Rattle.kp_model.specs.Grammar.{is_text, is_fitting, fits_cmd};
-ghost use Rattle.kp_model.specs.State.{empty, blank_node, seen as seen_of};
+ghost use Rattle.kp_model.specs.State.{empty, seen as seen_of};
 ghost use Rattle.kp_model.specs.Step as step;
 ghost use Rattle.kp_model.specs.Path.{parent as parent_of};
 ghost use Rattle.kp_plain.specs.Outcomes.{outcome, data_set};
 ghost use Rattle.kp_plain.specs.Built.{is_built, is_built_cmd};
 
-use crate::answer::{one, replied, two, Answer};
-use crate::change::{count_made, count_removed, new_node, shown, shown_count, with_data};
+use crate::answer::{Answer, one, replied, two};
+use crate::change::{
+    blank_root, count_made, count_removed, new_node, shown, shown_count, with_data,
+};
 use crate::checks::{create_fails, delete_fails, version_fails};
 use crate::nodes::Nodes;
 use crate::path::parent;
@@ -18,8 +20,8 @@ use crate::rights::{READ, WRITE};
 use crate::sessions::Sessions;
 use kp_model::errors::SESSION_EXPIRED;
 use kp_model::{
-    Acl, Acls, Body, Bytes, Cmd, Entry, Event, Items, Meta, NoMemory, Node, Origin, Paths, Reply,
-    Seen, Session, Text,
+    Acls, Body, Bytes, Cmd, Entry, Event, Items, Meta, NoMemory, Origin, Paths, Reply, Seen,
+    Session, Text,
 };
 use std::alloc::Global;
 use std::marker::Model;
@@ -50,38 +52,16 @@ impl Model for Tree {
     ghost view = { λ t. record { nodes = t.nodes; sessions = t.sessions; next = t.next; applied = t.applied } };
 }
 
-// The root of the empty tree.
-fn blank_root(alloc: Global) -> Result<Node, NoMemory>
-    ensures { IfOk result (λ node. node ≡ blank_node) }
-{
-    let mut acl = Items::new(alloc);
-    acl.push(Acl {
-        perms: 31,
-        scheme: Text::from_str(alloc, "world")?,
-        id: Text::from_str(alloc, "anyone")?,
-    })?;
-    Ok(Node {
-        bytes: Bytes::new(alloc),
-        acl,
-        czxid: 0,
-        mzxid: 0,
-        pzxid: 0,
-        ctime: 0,
-        mtime: 0,
-        version: 0,
-        cversion: 0,
-        aversion: 0,
-        owner: 0,
-        created: 0,
-    })
-}
-
 // The reply of a creation.
 fn made_reply(alloc: Global, path: &Text, meta: Meta, with_stat: bool) -> Result<Reply, NoMemory>
     ensures { IfOk result (λ reply. reply ≡ cond with_stat (Reply.PathStat path.now meta) (Reply.Path path.now)) }
 {
     let path = path.copy(alloc)?;
-    Ok(if with_stat { Reply::PathStat(path, meta) } else { Reply::Path(path) })
+    Ok(if with_stat {
+        Reply::PathStat(path, meta)
+    } else {
+        Reply::Path(path)
+    })
 }
 
 impl Tree {
@@ -232,7 +212,7 @@ impl Tree {
         }
     }
 
-    // The reply of new data: the numbers of the node as it is then, where there is one.
+    // Sets the data of a node, where there is one, and answers its numbers as they are then.
     #[tactic(auto, unfolding(kp_model::specs::State::stat), using(crate::proofs::Changed::get_changed))]
     fn replace(
         &mut self,

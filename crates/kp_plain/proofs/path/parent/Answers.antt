@@ -1,7 +1,7 @@
-use Rattle.std.proofs.Common.{◌≡◌, ◌<◌, ◌≢◌, ℕ, length, get_or, Some, None, lit<, sym, ap, ◌∙◌, arith}
+use Rattle.std.proofs.Common.{Some, None, lit<, sym, ap, arith}
 use Rattle.std.proofs.lemmas.Bool.Decides.{nat_tests}
 use Rattle.std.proofs.lemmas.Str.Pattern.{rfind_char}
-use Rattle.kp_model.specs.Path.{last_slash, before_slash, parent}
+use Rattle.kp_model.specs.Path.{before_slash, parent}
 use Rattle.kp_plain.proofs.LastSlash.{none_from, some_from}
 use Rattle.kp_plain.proofs.path.parent.Goals as goal
 

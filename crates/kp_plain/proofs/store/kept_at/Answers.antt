@@ -1,4 +1,4 @@
-use Rattle.std.proofs.Common.{◌∙◌, sym, ap, arith}
+use Rattle.std.proofs.Common.{sym, ap, arith}
 use Rattle.std.specs.Option.{option_map}
 use Rattle.kp_model.specs.Step.{Outcome}
 use Rattle.kp_plain.proofs.Replay.{outcome_none, reply_at, applied_before}

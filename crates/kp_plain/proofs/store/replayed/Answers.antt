@@ -1,4 +1,4 @@
-use Rattle.std.proofs.Common.{◌∙◌, sym, ap, arith}
+use Rattle.std.proofs.Common.{◌∙◌, sym, arith}
 use Rattle.kp_model.proofs.Applied.{applied-apply}
 use Rattle.kp_plain.proofs.Replay.{after_more, after_all}
 use Rattle.kp_plain.proofs.store.replayed.Goals as goal

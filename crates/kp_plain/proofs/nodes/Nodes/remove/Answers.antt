@@ -1,5 +1,4 @@
 use Rattle.kp_plain.proofs.SortedMap.{stays_sorted_without, remove_sorted}
-use Rattle.std.proofs.Common.{sym, ap, ◌∙◌, subst}
 use Rattle.std.specs.Cmp.Lexicographic.{nat_list_cmp_total}
 use Rattle.kp_model.proofs.GoodParts.{path_cmp-IsAntisymmetric}
 use Rattle.kp_plain.proofs.nodes.Nodes.remove.Goals as goal

@@ -1,4 +1,3 @@
-use Rattle.std.proofs.Common.{sym, subst}
 use Rattle.kp_plain.proofs.Keeping.{keeps_none}
 use Rattle.kp_plain.proofs.store.PlainStore.new.Goals as goal
 

@@ -1,0 +1,6 @@
+pub mod Paths
+pub mod Kids
+pub mod Owners
+pub mod Outcomes
+pub mod Seen
+pub mod Acts

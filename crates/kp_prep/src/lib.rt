@@ -1,0 +1,8 @@
+//! What an entry does, found on a view of the tree: its answer, its events and its changes.
+#![tactic(auto)]
+
+mod act;
+mod checks;
+mod plan;
+
+pub use plan::{Act, Effect, Found, Plan, Prepared, Stamp};

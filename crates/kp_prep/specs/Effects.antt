@@ -154,6 +154,18 @@ pub record IsAct (path : List ℕ) (s : State) (o : Outcome) (a : Act) : Type 0 
   pub parts : effected (parts_of s) a.effect ≡ parts_of o.state
   pub on : IsOn path a.effect
 
+-- an answer, and nothing that is done
+abbrev pub answer_plan : Reply → Plan
+answer_plan r = record { prepared = record { reply = r; events = [] }; session = None; next = None; effect = effect.Nothing }
+
+-- a session is opened under this number
+abbrev pub opening_plan : ℕ → Session → Plan
+opening_plan id x = record { prepared = record { reply = reply.Session id; events = [] }; session = Some (id, x); next = Some (id + 1); effect = effect.Nothing }
+
+-- a session is set, and its command acts
+abbrev pub acting_plan : ℕ → Session → Act → Plan
+acting_plan id x a = record { prepared = a.prepared; session = Some (id, x); next = None; effect = a.effect }
+
 -- the plan is what an entry does that leads from a state to this outcome
 pub record IsPlan (s : State) (o : Outcome) (p : Plan) : Type 0 where
   pub reply : p.prepared.reply ≡ o.reply

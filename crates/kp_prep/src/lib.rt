@@ -3,6 +3,7 @@
 
 mod act;
 mod checks;
+mod entry;
 mod plan;
 
 pub use plan::{Act, Effect, Found, Plan, Prepared, Stamp};

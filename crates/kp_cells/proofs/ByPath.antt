@@ -77,14 +77,14 @@ module _ {V : Type 0} where
   pub get-by_path : (names : Naming) (m : FinMap nat_cmp V) (q : List ℕ) → get (by_path names m) q ≡ option_and_then (get m) (get names.numbers q)
   get-by_path names m q = get-by_path_in (fin.entries names.numbers) m q ∙ ap (option_and_then (get m)) (sym (get-entries names.numbers q))
 
-at_none : {V : Type 0} (o : Option ℕ) → option_and_then (get (fin.empty {R = nat_cmp} {V = V})) o ≡ None
-at_none None = refl
-at_none (Some n) = get-empty nat_cmp n
+at_none : {V : Type 0} (m : FinMap nat_cmp V) → ((n : ℕ) → get m n ≡ None) → (o : Option ℕ) → option_and_then (get m) o ≡ None
+at_none m h None = refl
+at_none m h (Some n) = h n
 
 -- no entries
 pub by_path_empty : {V : Type 0} (names : Naming) → by_path {V = V} names fin.empty ≡ fin.empty
 by_path_empty names = same_map nat_list_cmp_total (slice_cmp-IsAntisymmetric nat_cmp-IsAntisymmetric) _ _ (λ q.
-    get-by_path names fin.empty q ∙ at_none (get names.numbers q) ∙ sym (get-empty path_cmp q))
+    get-by_path names fin.empty q ∙ at_none fin.empty (get-empty nat_cmp) (get names.numbers q) ∙ sym (get-empty path_cmp q))
 
 -- the writes of the open layer, by paths
 staged_by_path : {V : Type 0} (names : Naming) (o : Option (List (ℕ × Option V))) → unwrap_or (option_map (writes_by_path names) o) [] ≡ writes_by_path names (unwrap_or o [])

@@ -45,7 +45,7 @@ same_number names q p k n h e f = same_from_decides (bytes_eq q p) (nat_eq k n) 
       let b : get names.numbers q ≡ Some n = ap (get names.numbers) same ∙ f in
       let c : Some k ≡ Some n = a ∙ b in
       let kn : k ≡ n = cc in
-      ap (λ i. nat_eq i n) kn ∙ nat_eq_equiv.refl n)
+      ap (λ i. nat_eq i n) kn ∙ nat_eq_equiv.refl n),
 )
 
 apart_bools : (b : Bool) → (b ≡ true → ⊥) → b ≡ false
@@ -214,7 +214,7 @@ module _ {V : Type 0} (names : Naming) (h : IsNaming names) where
   overlay_known m (w ∷ ws) known base n v e =
       overlay_known (put m w.0 w.1) ws (All-tail (λ x. Knows names x.0) w ws known)
       (λ i u f. put_known (nat_eq i w.0) i w.0 u w.1 (get m i) (eqb-true i w.0) (All-head (λ x. Knows names x.0) w ws known) (base i u)
-        (ap (λ b. cond b w.1 (get m i)) (sym (unsigned_tied i w.0)) ∙ sym (get-put nat_cmp_total m w.0 w.1 i) ∙ f))
+      (ap (λ b. cond b w.1 (get m i)) (sym (unsigned_tied i w.0)) ∙ sym (get-put nat_cmp_total m w.0 w.1 i) ∙ f))
       n v e
 
   first_known : (layers : List (List (ℕ × Option V))) → All (AreKnown names) layers → AreKnown names (first_layer layers)

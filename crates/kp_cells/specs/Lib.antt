@@ -1,0 +1,5 @@
+pub mod Mapped
+pub mod Parts
+pub mod Overlays
+pub mod Naming
+pub mod Held

@@ -1,0 +1,4 @@
+pub mod Overlaid
+pub mod Chained
+pub mod Cuts
+pub mod Latest

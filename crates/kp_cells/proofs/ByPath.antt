@@ -45,7 +45,7 @@ same_number names q p k n h e f = same_from_decides (bytes_eq q p) (nat_eq k n) 
       let b : get names.numbers q ≡ Some n = ap (get names.numbers) same ∙ f in
       let c : Some k ≡ Some n = a ∙ b in
       let kn : k ≡ n = cc in
-      ap (λ i. nat_eq i n) kn ∙ nat_eq_equiv.refl n)
+      ap (λ i. nat_eq i n) kn ∙ nat_eq_equiv.refl n),
 )
 
 apart_bools : (b : Bool) → (b ≡ true → ⊥) → b ≡ false
@@ -77,14 +77,14 @@ module _ {V : Type 0} where
   pub get-by_path : (names : Naming) (m : FinMap nat_cmp V) (q : List ℕ) → get (by_path names m) q ≡ option_and_then (get m) (get names.numbers q)
   get-by_path names m q = get-by_path_in (fin.entries names.numbers) m q ∙ ap (option_and_then (get m)) (sym (get-entries names.numbers q))
 
-at_none : {V : Type 0} (o : Option ℕ) → option_and_then (get (fin.empty {R = nat_cmp} {V = V})) o ≡ None
-at_none None = refl
-at_none (Some n) = get-empty nat_cmp n
+at_none : {V : Type 0} (m : FinMap nat_cmp V) → ((n : ℕ) → get m n ≡ None) → (o : Option ℕ) → option_and_then (get m) o ≡ None
+at_none m h None = refl
+at_none m h (Some n) = h n
 
 -- no entries
 pub by_path_empty : {V : Type 0} (names : Naming) → by_path {V = V} names fin.empty ≡ fin.empty
 by_path_empty names = same_map nat_list_cmp_total (slice_cmp-IsAntisymmetric nat_cmp-IsAntisymmetric) _ _ (λ q.
-    get-by_path names fin.empty q ∙ at_none (get names.numbers q) ∙ sym (get-empty path_cmp q))
+    get-by_path names fin.empty q ∙ at_none fin.empty (get-empty nat_cmp) (get names.numbers q) ∙ sym (get-empty path_cmp q))
 
 -- the writes of the open layer, by paths
 staged_by_path : {V : Type 0} (names : Naming) (o : Option (List (ℕ × Option V))) → unwrap_or (option_map (writes_by_path names) o) [] ≡ writes_by_path names (unwrap_or o [])
@@ -214,7 +214,7 @@ module _ {V : Type 0} (names : Naming) (h : IsNaming names) where
   overlay_known m (w ∷ ws) known base n v e =
       overlay_known (put m w.0 w.1) ws (All-tail (λ x. Knows names x.0) w ws known)
       (λ i u f. put_known (nat_eq i w.0) i w.0 u w.1 (get m i) (eqb-true i w.0) (All-head (λ x. Knows names x.0) w ws known) (base i u)
-        (ap (λ b. cond b w.1 (get m i)) (sym (unsigned_tied i w.0)) ∙ sym (get-put nat_cmp_total m w.0 w.1 i) ∙ f))
+      (ap (λ b. cond b w.1 (get m i)) (sym (unsigned_tied i w.0)) ∙ sym (get-put nat_cmp_total m w.0 w.1 i) ∙ f))
       n v e
 
   first_known : (layers : List (List (ℕ × Option V))) → All (AreKnown names) layers → AreKnown names (first_layer layers)

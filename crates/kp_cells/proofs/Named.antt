@@ -55,7 +55,7 @@ empty_naming names e = let P : Naming → Type 0 = λ n. IsNaming n × AreBelow 
     there = λ p n f. absurd (no_entry (sym (get-empty path_cmp p) ∙ f));
     back = λ p n f. absurd (no_text (sym (get-empty nat_cmp n) ∙ f));
   },
-  (λ p n f. absurd (no_entry (sym (get-empty path_cmp p) ∙ f)))
+  (λ p n f. absurd (no_entry (sym (get-empty path_cmp p) ∙ f))),
 )
   where
     no_entry : {n : ℕ} → ◌≡◌ {A = Option ℕ} None (Some n) → ⊥

@@ -66,11 +66,11 @@ module _ (op : (K : Type 0) (R : K → K → Ordering) (V : Type 0) → ℕ → 
       next_alike = alike _ _ k.metas k.next metas next h.next_alike;
     },
     let e_metas : layers_by_path names (op _ _ _ k.metas metas) ≡ op _ _ _ k.metas (layers_by_path names metas) = seen _ names h.naming k.metas metas h.metas_named in
-    let e_contents : layers_by_path names (op _ _ _ k.contents contents) ≡ op _ _ _ k.contents (layers_by_path names contents) = seen _ names h.naming k.contents contents h.contents_named in
-    let e_acls : layers_by_path names (op _ _ _ k.acls acls) ≡ op _ _ _ k.acls (layers_by_path names acls) = seen _ names h.naming k.acls acls h.acls_named in
-    let e_children : layers_by_path names (op _ _ _ k.children children) ≡ op _ _ _ k.children (layers_by_path names children) = seen _ names h.naming k.children children h.children_named in
-    let e_owners : layers_by_path names (op _ _ _ k.owners owners) ≡ op _ _ _ k.owners (layers_by_path names owners) = seen _ names h.naming k.owners owners h.owners_named in
-    λ i. record { metas = e_metas i; contents = e_contents i; acls = e_acls i; children = e_children i; owners = e_owners i; sessions = op _ _ _ k.sessions sessions; next = op _ _ _ k.next next; applied = applied },
+        let e_contents : layers_by_path names (op _ _ _ k.contents contents) ≡ op _ _ _ k.contents (layers_by_path names contents) = seen _ names h.naming k.contents contents h.contents_named in
+        let e_acls : layers_by_path names (op _ _ _ k.acls acls) ≡ op _ _ _ k.acls (layers_by_path names acls) = seen _ names h.naming k.acls acls h.acls_named in
+        let e_children : layers_by_path names (op _ _ _ k.children children) ≡ op _ _ _ k.children (layers_by_path names children) = seen _ names h.naming k.children children h.children_named in
+        let e_owners : layers_by_path names (op _ _ _ k.owners owners) ≡ op _ _ _ k.owners (layers_by_path names owners) = seen _ names h.naming k.owners owners h.owners_named in
+        λ i. record { metas = e_metas i; contents = e_contents i; acls = e_acls i; children = e_children i; owners = e_owners i; sessions = op _ _ _ k.sessions sessions; next = op _ _ _ k.next next; applied = applied },
   )
 
   pub moved : (names : Naming) (k : CellsMark) (metas metas' : Layering nat_cmp Meta) (contents contents' : Layering nat_cmp (List ℕ)) (acls acls' : Layering nat_cmp (List Acl)) (children children' : Layering nat_cmp (Unit {0})) (owners owners' : Layering nat_cmp ℕ) (sessions sessions' : Layering nat_cmp Session) (next next' : Layering nat_cmp ℕ) (applied : ℕ) → metas' ≡ op _ _ _ k.metas metas → contents' ≡ op _ _ _ k.contents contents → acls' ≡ op _ _ _ k.acls acls → children' ≡ op _ _ _ k.children children → owners' ≡ op _ _ _ k.owners owners → sessions' ≡ op _ _ _ k.sessions sessions → next' ≡ op _ _ _ k.next next → AreHeld names metas contents acls children owners sessions next → AreHeld names metas' contents' acls' children' owners' sessions' next' × (overlays names metas' contents' acls' children' owners' sessions' next' applied ≡ all_op k (overlays names metas contents acls children owners sessions next applied))
@@ -146,7 +146,7 @@ metas_written names metas contents acls children owners sessions next applied pa
     next_alike = record { layers = h.next_alike.layers; staged = h.next_alike.staged ∙ there };
   },
   let e : layers_by_path names (written metas number value) ≡ written (layers_by_path names metas) path value = written_by_path names h.naming metas path number value is in
-  λ i. record { metas = e i; contents = layers_by_path names contents; acls = layers_by_path names acls; children = layers_by_path names children; owners = layers_by_path names owners; sessions = sessions; next = next; applied = applied },
+      λ i. record { metas = e i; contents = layers_by_path names contents; acls = layers_by_path names acls; children = layers_by_path names children; owners = layers_by_path names owners; sessions = sessions; next = next; applied = applied },
 )
 
 pub after_metas : (names names' : Naming) (metas metas' : Layering nat_cmp Meta) (contents : Layering nat_cmp (List ℕ)) (acls : Layering nat_cmp (List Acl)) (children : Layering nat_cmp (Unit {0})) (owners : Layering nat_cmp ℕ) (sessions : Layering nat_cmp Session) (next : Layering nat_cmp ℕ) (applied : ℕ) (path : List ℕ) (number : ℕ) (value : Option Meta) → IsNaming names' → Grows names names' → get names'.numbers path ≡ Some number → metas' ≡ written metas number value → IsSome metas.staged → AreHeld names metas contents acls children owners sessions next → AreHeld names' metas' contents acls children owners sessions next × (overlays names' metas' contents acls children owners sessions next applied ≡ record { metas = written (layers_by_path names metas) path value; contents = layers_by_path names contents; acls = layers_by_path names acls; children = layers_by_path names children; owners = layers_by_path names owners; sessions = sessions; next = next; applied = applied })
@@ -174,7 +174,7 @@ contents_written names metas contents acls children owners sessions next applied
     next_alike = h.next_alike;
   },
   let e : layers_by_path names (written contents number value) ≡ written (layers_by_path names contents) path value = written_by_path names h.naming contents path number value is in
-  λ i. record { metas = layers_by_path names metas; contents = e i; acls = layers_by_path names acls; children = layers_by_path names children; owners = layers_by_path names owners; sessions = sessions; next = next; applied = applied },
+      λ i. record { metas = layers_by_path names metas; contents = e i; acls = layers_by_path names acls; children = layers_by_path names children; owners = layers_by_path names owners; sessions = sessions; next = next; applied = applied },
 )
 
 pub after_contents : (names names' : Naming) (metas : Layering nat_cmp Meta) (contents contents' : Layering nat_cmp (List ℕ)) (acls : Layering nat_cmp (List Acl)) (children : Layering nat_cmp (Unit {0})) (owners : Layering nat_cmp ℕ) (sessions : Layering nat_cmp Session) (next : Layering nat_cmp ℕ) (applied : ℕ) (path : List ℕ) (number : ℕ) (value : Option (List ℕ)) → IsNaming names' → Grows names names' → get names'.numbers path ≡ Some number → contents' ≡ written contents number value → IsSome metas.staged → AreHeld names metas contents acls children owners sessions next → AreHeld names' metas contents' acls children owners sessions next × (overlays names' metas contents' acls children owners sessions next applied ≡ record { metas = layers_by_path names metas; contents = written (layers_by_path names contents) path value; acls = layers_by_path names acls; children = layers_by_path names children; owners = layers_by_path names owners; sessions = sessions; next = next; applied = applied })
@@ -202,7 +202,7 @@ acls_written names metas contents acls children owners sessions next applied pat
     next_alike = h.next_alike;
   },
   let e : layers_by_path names (written acls number value) ≡ written (layers_by_path names acls) path value = written_by_path names h.naming acls path number value is in
-  λ i. record { metas = layers_by_path names metas; contents = layers_by_path names contents; acls = e i; children = layers_by_path names children; owners = layers_by_path names owners; sessions = sessions; next = next; applied = applied },
+      λ i. record { metas = layers_by_path names metas; contents = layers_by_path names contents; acls = e i; children = layers_by_path names children; owners = layers_by_path names owners; sessions = sessions; next = next; applied = applied },
 )
 
 pub after_acls : (names names' : Naming) (metas : Layering nat_cmp Meta) (contents : Layering nat_cmp (List ℕ)) (acls acls' : Layering nat_cmp (List Acl)) (children : Layering nat_cmp (Unit {0})) (owners : Layering nat_cmp ℕ) (sessions : Layering nat_cmp Session) (next : Layering nat_cmp ℕ) (applied : ℕ) (path : List ℕ) (number : ℕ) (value : Option (List Acl)) → IsNaming names' → Grows names names' → get names'.numbers path ≡ Some number → acls' ≡ written acls number value → IsSome metas.staged → AreHeld names metas contents acls children owners sessions next → AreHeld names' metas contents acls' children owners sessions next × (overlays names' metas contents acls' children owners sessions next applied ≡ record { metas = layers_by_path names metas; contents = layers_by_path names contents; acls = written (layers_by_path names acls) path value; children = layers_by_path names children; owners = layers_by_path names owners; sessions = sessions; next = next; applied = applied })
@@ -230,7 +230,7 @@ children_written names metas contents acls children owners sessions next applied
     next_alike = h.next_alike;
   },
   let e : layers_by_path names (written children number value) ≡ written (layers_by_path names children) path value = written_by_path names h.naming children path number value is in
-  λ i. record { metas = layers_by_path names metas; contents = layers_by_path names contents; acls = layers_by_path names acls; children = e i; owners = layers_by_path names owners; sessions = sessions; next = next; applied = applied },
+      λ i. record { metas = layers_by_path names metas; contents = layers_by_path names contents; acls = layers_by_path names acls; children = e i; owners = layers_by_path names owners; sessions = sessions; next = next; applied = applied },
 )
 
 pub after_children : (names names' : Naming) (metas : Layering nat_cmp Meta) (contents : Layering nat_cmp (List ℕ)) (acls : Layering nat_cmp (List Acl)) (children children' : Layering nat_cmp (Unit {0})) (owners : Layering nat_cmp ℕ) (sessions : Layering nat_cmp Session) (next : Layering nat_cmp ℕ) (applied : ℕ) (path : List ℕ) (number : ℕ) (value : Option (Unit {0})) → IsNaming names' → Grows names names' → get names'.numbers path ≡ Some number → children' ≡ written children number value → IsSome metas.staged → AreHeld names metas contents acls children owners sessions next → AreHeld names' metas contents acls children' owners sessions next × (overlays names' metas contents acls children' owners sessions next applied ≡ record { metas = layers_by_path names metas; contents = layers_by_path names contents; acls = layers_by_path names acls; children = written (layers_by_path names children) path value; owners = layers_by_path names owners; sessions = sessions; next = next; applied = applied })
@@ -258,7 +258,7 @@ owners_written names metas contents acls children owners sessions next applied p
     next_alike = h.next_alike;
   },
   let e : layers_by_path names (written owners number value) ≡ written (layers_by_path names owners) path value = written_by_path names h.naming owners path number value is in
-  λ i. record { metas = layers_by_path names metas; contents = layers_by_path names contents; acls = layers_by_path names acls; children = layers_by_path names children; owners = e i; sessions = sessions; next = next; applied = applied },
+      λ i. record { metas = layers_by_path names metas; contents = layers_by_path names contents; acls = layers_by_path names acls; children = layers_by_path names children; owners = e i; sessions = sessions; next = next; applied = applied },
 )
 
 pub after_owners : (names names' : Naming) (metas : Layering nat_cmp Meta) (contents : Layering nat_cmp (List ℕ)) (acls : Layering nat_cmp (List Acl)) (children : Layering nat_cmp (Unit {0})) (owners owners' : Layering nat_cmp ℕ) (sessions : Layering nat_cmp Session) (next : Layering nat_cmp ℕ) (applied : ℕ) (path : List ℕ) (number : ℕ) (value : Option ℕ) → IsNaming names' → Grows names names' → get names'.numbers path ≡ Some number → owners' ≡ written owners number value → IsSome metas.staged → AreHeld names metas contents acls children owners sessions next → AreHeld names' metas contents acls children owners' sessions next × (overlays names' metas contents acls children owners' sessions next applied ≡ record { metas = layers_by_path names metas; contents = layers_by_path names contents; acls = layers_by_path names acls; children = layers_by_path names children; owners = written (layers_by_path names owners) path value; sessions = sessions; next = next; applied = applied })

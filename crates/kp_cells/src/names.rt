@@ -45,11 +45,7 @@ fn make_room(texts: &mut HashMap<u64, String>) -> Result<(), NoMemory>
 }
 
 // Gives the path the number.
-fn add_number(
-    numbers: &mut HashMap<String, u64>,
-    path: String,
-    number: u64,
-) -> Result<(), NoMemory>
+fn add_number(numbers: &mut HashMap<String, u64>, path: String, number: u64) -> Result<(), NoMemory>
     ensures ok { OnOk result ((p : List ℕ) → map.get (numbers_in numbers.new.entries) p ≡ cond (bytes_eq (string_bytes path) p) (Some number) (map.get (numbers_in numbers.old.entries) p)) }
     ensures err { OnErr result (numbers_in numbers.new.entries ≡ numbers_in numbers.old.entries) }
 {

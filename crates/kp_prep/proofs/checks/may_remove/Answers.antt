@@ -1,0 +1,14 @@
+use Rattle.std.proofs.Common.{◌≡◌, ℕ, Bool, List, Option, Some, None, is_some, refl, ap, sym, subst, ◌∙◌}
+use Rattle.std.specs.Option.{option_copied}
+use Rattle.std.specs.FinMap as map
+use Rattle.kp_model.specs.Path.{parent}
+use Rattle.kp_model.specs.State.{meta_at}
+use Rattle.kp_prep.specs.Looks.{has_right, room_fails, leave_fails, change_fails}
+use Rattle.kp_prep.proofs.Seen.{is_root, delete_malformed, delete_root}
+use Rattle.kp_prep.proofs.checks.may_remove.Goals as goal
+
+pub returns-in-Err : goal.returns-in-Err
+returns-in-Err g c = delete_malformed (g.V.View.state c.args.view.now).nodes c.args.ids.now c.args.path.now c.args.version c.in-Err.ensures
+
+pub returns-in-None : goal.returns-in-None
+returns-in-None g c = delete_root (g.V.View.state c.args.view.now).nodes c.args.ids.now c.args.path.now c.args.version c.in-Ok.ensures (is_root _ (parent c.args.path.now) (sym (ap option_copied c.in-None.is) ∙ c.parent.ensures))

@@ -16,4 +16,6 @@ pub use line::StoreLine;
 pub use status::Status;
 
 #[cfg(test)]
+mod copies;
+#[cfg(test)]
 mod tests;

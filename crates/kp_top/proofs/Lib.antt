@@ -5,3 +5,8 @@ mod Streams
 mod Spelled
 mod Paces
 mod Runs
+mod Parted
+mod Visible
+mod Hexadecimal
+mod LinesRead
+mod LinesSpelled

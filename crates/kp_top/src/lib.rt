@@ -2,6 +2,7 @@
 #![tactic(auto)]
 
 mod command;
+mod laws;
 mod line;
 mod print;
 mod status;
@@ -12,6 +13,7 @@ mod words;
 mod work;
 
 pub use command::run_command;
+pub use laws::lines_are_read_as_spelled;
 pub use line::StoreLine;
 pub use status::Status;
 

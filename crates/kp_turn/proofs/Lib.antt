@@ -3,3 +3,4 @@ pub mod Views
 pub mod TurnSteps
 pub mod TurnCalls
 pub mod OwnEvents
+pub mod StopSteps

@@ -5,3 +5,5 @@ pub mod TurnPlays
 pub mod TurnMoves
 pub mod Refusals
 pub mod TurnSeats
+pub mod StopRule
+pub mod StopSeats

@@ -6,15 +6,14 @@
 
 mod memory;
 mod rule;
-
+mod stop;
 mod storied;
-
 mod turn;
 mod view;
 
 pub use memory::NoMemory;
 pub use rule::OneHistory;
-
+pub use stop::{StopRule, StopSeat, StopView, StopWord};
 pub use storied::Storied;
 pub use turn::{Refused, Turn, TurnOf, TurnSeat, Worn};
 pub use view::{TurnSlot, TurnView};

@@ -8,6 +8,8 @@ mod memory;
 mod rule;
 mod stop;
 mod storied;
+#[cfg(test)]
+mod tests;
 mod turn;
 mod view;
 

@@ -29,8 +29,13 @@ module _ {T E A : Type 0} (events : T → ℕ) (steps : T → E → A → T → 
       let counts = leads.2 in
       let from : steps (value_after m.0.start m.0.seen) e a y = subst (λ (v : T). steps v e a y) leads.1 step in (
         h.0,
-        (after, ap (λ (l : List (ℕ × TurnSlot T E A)). (0, after) ∷ l) alone, (te, sa),
-            (Runs-append steps m.0.start m.0.seen e a y leads.0 from, sym (value_after-append m.0.start m.0.seen e a y), omega arith), (leads.0, from)),
+        (
+          after,
+          ap (λ (l : List (ℕ × TurnSlot T E A)). (0, after) ∷ l) alone,
+          (te, sa),
+          (Runs-append steps m.0.start m.0.seen e a y leads.0 from, sym (value_after-append m.0.start m.0.seen e a y), omega arith),
+          (leads.0, from),
+        ),
       )
 
   -- in its turn a seat learns nothing new from the count

@@ -1,5 +1,5 @@
 -- What the parts of one call do together, between asking for the turn and giving it up.
-use Rattle.std.specs.Prelude.{◌≡◌, ℕ, ◌<◌, ◌^◌, ◌≤◌, IsTrue, true, false, List, [], ◌∷◌, ◌++◌, length}
+use Rattle.std.specs.Prelude.{◌≡◌, ℕ, ◌<◌, ◌^◌, ◌≤◌, IsTrue, true, false, [], ◌∷◌, ◌++◌, length}
 use Rattle.kp_turn.specs.declared.view.TurnView.{TurnView}
 use Rattle.kp_turn.specs.declared.view.TurnSlot.{TurnSlot}
 use Rattle.kp_turn.specs.History.{Leads, Answers, IsPrefix}

@@ -15,9 +15,11 @@ pub struct OneHistory<T> {
     value: PhantomData<T>,
 }
 
-impl<T: Storied>
-    TableRule<TurnSlot<T, T::Event, T::Said>, TurnView<T, T::Event, T::Said>, Snapshot<T>>
-    for OneHistory<T> {
+impl<T: Storied> TableRule<
+    TurnSlot<T, T::Event, T::Said>,
+    TurnView<T, T::Event, T::Said>,
+    Snapshot<T>,
+> for OneHistory<T> {
     ghost holds = { λ key. IsOneHistory T.events T.steps key.value };
 
     ghost first = { λ key. first_view key.value };

@@ -33,12 +33,7 @@ fn seats(
 }
 
 // Makes all calls of one thread, and gives their answers.
-fn call<R: Wait>(
-    rt: &R,
-    alloc: Global,
-    turn: &Turn<Tally>,
-    mut seat: TurnSeat<Tally>,
-) -> Vec<u64>
+fn call<R: Wait>(rt: &R, alloc: Global, turn: &Turn<Tally>, mut seat: TurnSeat<Tally>) -> Vec<u64>
     requires { IsSeatOf turn.now seat }
 {
     let mut answers = Vec::new(alloc);

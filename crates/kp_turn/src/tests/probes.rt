@@ -1,5 +1,5 @@
 // Functions that are proved only if these types may cross threads, at any value that may be sent.
-use crate::{Storied, StopSeat, StopWord, Turn, TurnSeat};
+use crate::{StopSeat, StopWord, Storied, Turn, TurnSeat};
 
 fn is_sent<X: Send>(_value: &X) {}
 

@@ -2,13 +2,12 @@ ghost use Rattle.std.specs.Prelude.{◌≡◌};
 ghost use Rattle.kp_turn.specs.TurnSeats.{IsSeatOf};
 
 use crate::counter::Counter;
+use anyhow::{Result, anyhow};
 use kp_turn::{Turn, TurnSeat};
 use std::alloc::Global;
 use std::sync::Wait;
 use std::thread;
 use std::thread::Threads;
-
-use anyhow::{Result, anyhow};
 
 fn call<R: Wait>(rt: &R, turn: &Turn<Counter>, seat: &mut TurnSeat<Counter>, calls: u64)
     requires { IsSeatOf turn.now seat.old }

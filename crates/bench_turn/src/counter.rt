@@ -35,7 +35,9 @@ impl Storied for Counter {
         let said = self.calls;
         let mut mix = self.mix;
         for _ in 0..self.work {
-            mix = (mix ^ event).rotate_left(7).wrapping_mul(6_364_136_223_846_793_005);
+            mix = (mix ^ event)
+                .rotate_left(7)
+                .wrapping_mul(6_364_136_223_846_793_005);
         }
         self.mix = mix;
         self.calls += 1;

@@ -1,5 +1,5 @@
 -- The parts of a `Cells` together.
-use Rattle.std.proofs.Common.{◌≡◌, ℕ, ◌+◌, ◌-◌, Bool, true, false, List, [], ◌∷◌, ◌++◌, take, drop, length, Option, Some, None, IsSome, is_some, refl, ap, sym, ◌∙◌, subst, arith, length-append, length-drop}
+use Rattle.std.proofs.Common.{◌≡◌, ℕ, ◌+◌, ◌-◌, Bool, true, false, List, [], ◌∷◌, take, length, Option, Some, None, IsSome, is_some, refl, ap, sym, ◌∙◌, subst, arith, length-append, length-drop}
 use Rattle.std.specs.Prelude.{min, zero, suc, ◌<◌, ◌↔◌, IsTrue, if◌then◌else◌}
 use Rattle.std.specs.Option.{option_map}
 use Rattle.std.specs.declared.cmp.Ordering.{Ordering}
@@ -12,7 +12,7 @@ use Rattle.kp_model.specs.declared.node.Acl.{Acl}
 use Rattle.kp_model.specs.declared.node.Meta.{Meta}
 use Rattle.kp_model.specs.declared.session.Session.{Session}
 use Rattle.kp_cells.specs.declared.cells.CellsMark.{CellsMark}
-use Rattle.kp_cells.specs.Naming.{Naming, IsNaming, IsNamed, Grows, Knows, layers_by_path}
+use Rattle.kp_cells.specs.Naming.{Naming, IsNaming, IsNamed, Grows, layers_by_path}
 use Rattle.kp_cells.specs.Overlays.{Overlays, applied_after, blank_overlays}
 use Rattle.kp_cells.specs.Held.{overlays, AreAlike, AreHeld}
 use Rattle.kp_cells.proofs.Named.{no_number}

@@ -1,13 +1,14 @@
 //! The parts of the tree and the sessions, each under layers of writes.
-ghost use Rattle.std.specs.Prelude.{◌≡◌, [], IfOk, ◌+◌, ◌<◌, ◌↔◌, ◌==◌, min, if◌then◌else◌, false, Some, None, OnOk, OnErr, IsTrue, option_copied};
+ghost use Rattle.std.specs.Prelude.{◌≡◌, [], IfOk, ◌+◌, ◌<◌, ◌↔◌, ◌==◌, min, if◌then◌else◌, false, Some, None, OnOk, OnErr, IsTrue};
 ghost use Rattle.std.specs.FinMap as map;
-ghost use Rattle.std.specs.Option.{option_and_then, option_map_or};
+ghost use Rattle.std.specs.Option.{option_map_or};
 ghost use Rattle.std.specs.Str.{bytes_eq};
 ghost use Rattle.kp_layers.specs.Layering.{latest_of, written};
 ghost use Rattle.kp_model.specs.Path.{is_well_formed, root};
-ghost use Rattle.kp_cells.specs.Overlays.{IsOpen, IsClosed, depth, all_begun, all_sealed, all_abandoned, all_undone, marks_of, all_committed, all_dropped, with_meta, with_content, with_acl, with_child, with_owned, with_owner, with_session, with_next, latest_parts, committed_parts, settled, root_parts, blank_overlays};
+ghost use Rattle.kp_cells.specs.Overlays.{IsOpen, IsClosed, depth, all_begun, all_sealed, all_abandoned, all_undone, marks_of, all_committed, all_dropped, with_meta, with_content, with_acl, with_child, with_owned, with_owner, with_session, with_next, settled, root_parts, blank_overlays};
 ghost use Rattle.kp_model.specs.State.{meta_of, blank_node, open_acl};
 
+use crate::looks::latest_at;
 use crate::names::Names;
 use crate::pair::{abandon_both, begin_four, begin_three};
 use kp_layers::Layers;
@@ -24,14 +25,14 @@ use std::marker::Model;
 #[derive(Drop)]
 pub struct Cells {
     alloc: Global,
-    names: Names,
-    metas: Layers<Meta>,
-    contents: Layers<Bytes>,
-    acls: Layers<Acls>,
+    pub(crate) names: Names,
+    pub(crate) metas: Layers<Meta>,
+    pub(crate) contents: Layers<Bytes>,
+    pub(crate) acls: Layers<Acls>,
     children: Layers<()>,
-    owners: Layers<u64>,
-    sessions: Layers<Session>,
-    next: Layers<u64>,
+    pub(crate) owners: Layers<u64>,
+    pub(crate) sessions: Layers<Session>,
+    pub(crate) next: Layers<u64>,
     applied: u64,
 }
 
@@ -60,26 +61,6 @@ impl Model for Cells {
     ghost view = { λ c. overlays c.names c.metas c.contents c.acls c.children c.owners c.sessions c.next c.applied };
 
     ghost invariant = { λ c. AreHeld c.names c.metas c.contents c.acls c.children c.owners c.sessions c.next };
-}
-
-// What the layers have at the path under all layers.
-fn latest_at<'a, V>(names: &Names, layers: &'a Layers<V>, path: &str) -> Option<&'a V>
-    ensures { option_copied result ≡ option_and_then (map.get (latest_of layers.now)) (map.get names.now.numbers path.now) }
-{
-    match names.get(path) {
-        Some(number) => layers.latest(number),
-        None => None,
-    }
-}
-
-// What the layers have at the path below all layers.
-fn committed_at<'a, V>(names: &Names, layers: &'a Layers<V>, path: &str) -> Option<&'a V>
-    ensures { option_copied result ≡ option_and_then (map.get layers.now.base) (map.get names.now.numbers path.now) }
-{
-    match names.get(path) {
-        Some(number) => layers.committed(number),
-        None => None,
-    }
 }
 
 // The index of the last committed entry, where one more may have been committed. It stands still at
@@ -177,94 +158,6 @@ impl Cells {
         let acl = everyones_acl(alloc)?;
         self.stage_acl("/", Some(acl))?;
         self.stage_next(1)
-    }
-
-    /// What is shown of the node at the path under all layers.
-    pub fn latest_meta(&self, path: &str) -> Option<&Meta>
-        ensures { option_copied result ≡ map.get (latest_of self.now.metas) path.now }
-    {
-        latest_at(&self.names, &self.metas, path)
-    }
-
-    /// What is shown of the node at the path below all layers.
-    pub fn committed_meta(&self, path: &str) -> Option<&Meta>
-        ensures { option_copied result ≡ map.get self.now.metas.base path.now }
-    {
-        committed_at(&self.names, &self.metas, path)
-    }
-
-    /// The data of the node at the path under all layers.
-    pub fn latest_content(&self, path: &str) -> Option<&[u8]>
-        ensures { option_copied result ≡ map.get (latest_of self.now.contents) path.now }
-    {
-        match latest_at(&self.names, &self.contents, path) {
-            Some(bytes) => Some(bytes.as_slice()),
-            None => None,
-        }
-    }
-
-    /// The data of the node at the path below all layers.
-    pub fn committed_content(&self, path: &str) -> Option<&[u8]>
-        ensures { option_copied result ≡ map.get self.now.contents.base path.now }
-    {
-        match committed_at(&self.names, &self.contents, path) {
-            Some(bytes) => Some(bytes.as_slice()),
-            None => None,
-        }
-    }
-
-    /// The access list of the node at the path under all layers.
-    pub fn latest_acl(&self, path: &str) -> Option<&[Acl]>
-        ensures { option_copied result ≡ map.get (latest_of self.now.acls) path.now }
-    {
-        match latest_at(&self.names, &self.acls, path) {
-            Some(acl) => Some(acl.as_slice()),
-            None => None,
-        }
-    }
-
-    /// The access list of the node at the path below all layers.
-    pub fn committed_acl(&self, path: &str) -> Option<&[Acl]>
-        ensures { option_copied result ≡ map.get self.now.acls.base path.now }
-    {
-        match committed_at(&self.names, &self.acls, path) {
-            Some(acl) => Some(acl.as_slice()),
-            None => None,
-        }
-    }
-
-    /// The session of the number under all layers.
-    pub fn latest_session(&self, id: u64) -> Option<&Session>
-        ensures { option_copied result ≡ map.get (latest_of self.now.sessions) id }
-    {
-        self.sessions.latest(id)
-    }
-
-    /// The session of the number below all layers.
-    pub fn committed_session(&self, id: u64) -> Option<&Session>
-        ensures { option_copied result ≡ map.get self.now.sessions.base id }
-    {
-        self.sessions.committed(id)
-    }
-
-    /// The next session number under all layers.
-    pub fn latest_next(&self) -> u64
-        ensures { result ≡ (latest_parts self.now).next }
-    {
-        match self.next.latest(0) {
-            Some(next) => *next,
-            None => 1,
-        }
-    }
-
-    /// The next session number below all layers.
-    pub fn committed_next(&self) -> u64
-        ensures { result ≡ (committed_parts self.now).next }
-    {
-        match self.next.committed(0) {
-            Some(next) => *next,
-            None => 1,
-        }
     }
 
     /// Opens a layer with no writes in each part. After an error nothing has changed.

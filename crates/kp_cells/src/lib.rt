@@ -4,6 +4,7 @@
 
 mod cells;
 mod change;
+mod looks;
 mod names;
 mod pair;
 

@@ -1,5 +1,5 @@
-use Rattle.std.proofs.Common.{◌≡◌, ap, sym, ◌∙◌, ◌+◌, length}
-use Rattle.std.specs.Prelude.{min, map}
+use Rattle.std.proofs.Common.{◌≡◌, ap, sym, ◌∙◌, length}
+use Rattle.std.specs.Prelude.{map}
 use Rattle.kp_cells.specs.Naming.{writes_by_path}
 use Rattle.kp_cells.specs.Overlays.{all_committed, applied_after}
 use Rattle.kp_cells.specs.Held.{overlays}

@@ -1,6 +1,6 @@
 use Rattle.std.proofs.Common.{ap, ◌∙◌}
 use Rattle.kp_layers.specs.Layering.{undone}
-use Rattle.kp_cells.proofs.Together.{all_undone_is, no_mark}
+use Rattle.kp_cells.proofs.Together.{all_undone_is}
 use Rattle.kp_cells.proofs.cells.Cells.undo_to.Goals as goal
 
 pub invariant_of-self : goal.invariant_of-self

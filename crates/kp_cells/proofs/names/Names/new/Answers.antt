@@ -1,5 +1,4 @@
-use Rattle.std.proofs.Common.{◌≡◌}
-use Rattle.kp_cells.specs.Naming.{Naming, no_names, numbers_in, texts_in}
+use Rattle.kp_cells.specs.Naming.{numbers_in, texts_in}
 use Rattle.kp_cells.proofs.Named.{empty_naming}
 use Rattle.kp_cells.proofs.names.Names.new.Goals as goal
 

@@ -1,9 +1,8 @@
 -- What is read and written piece by piece.
-use Rattle.std.proofs.Common.{◌≡◌, ◌<◌, ◌≤◌, ◌+◌, ℕ, List, [], ◌∷◌, ◌++◌, length, take, drop, Option, Some, None, refl, sym, ap, ◌∙◌, append_assoc, arith, length-append, drop-drop, length-take-le}
+use Rattle.std.proofs.Common.{◌<◌, ◌≤◌, ◌+◌, ℕ, List, ◌++◌, length, take, drop, Option, Some, None, sym, ap, ◌∙◌, append_assoc, arith, length-append, drop-drop}
 use Rattle.std.proofs.lemmas.List.{take-append-drop}
-use Rattle.std.specs.Prelude.{IfSome}
 use Rattle.std.specs.Io.KnownBytes.{Appends, Consumes}
-use Rattle.kp_top.specs.Output.{Wrote, WrotePart, TookMore, TookWithin}
+use Rattle.kp_top.specs.Output.{Wrote, TookMore, TookWithin}
 
 pub wrote_more : (old now next : Option (List ℕ)) (bytes : List ℕ) (at n : ℕ) → Wrote old now (drop at bytes) bytes → Appends now next (take n (drop at bytes)) → Wrote old next (drop (at + n) bytes) bytes
 wrote_more None now next bytes at n w a = tt

@@ -1,5 +1,5 @@
 -- The lines of the store language, as a function that reads them.
-use Rattle.std.specs.Prelude.{ℕ, Bool, ◌&&◌, nat_le, List, [], ◌∷◌, Option, Some, None, if◌then◌else◌}
+use Rattle.std.specs.Prelude.{ℕ, ◌&&◌, nat_le, List, [], ◌∷◌, Option, Some, None, if◌then◌else◌}
 use Rattle.std.specs.Str.{bytes_eq, is_utf8}
 use Rattle.kp_top.specs.Words.{words_of, number_of, data_of, passwd_of, path_of}
 use Rattle.kp_top.specs.declared.line.StoreLine.{StoreLine}

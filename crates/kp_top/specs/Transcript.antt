@@ -2,13 +2,12 @@
 use Rattle.std.specs.Prelude.{ℕ, ◌+◌, ◌&&◌, false, nat_le, List, [], ◌∷◌, ◌++◌, Option, Some, None, if◌then◌else◌, refl}
 use Rattle.std.specs.FinMap as map
 use Rattle.std.specs.Coded.{Coded, code_by, coded×, coded_ℕ}
-use Rattle.kp_model.specs.LogEntry.{LogEntry}
 use Rattle.kp_model.specs.declared.session.Session.{Session}
 use Rattle.kp_model.specs.declared.entry.Body.{Body}
 use Rattle.kp_model.specs.declared.entry.Body.TheVariants as body
 use Rattle.kp_model.specs.declared.command.Cmd.{Cmd}
 use Rattle.kp_model.specs.declared.command.Cmd.TheVariants as cmd
-use Rattle.kp_model.specs.State.{State, open_acl, seen}
+use Rattle.kp_model.specs.State.{open_acl, seen}
 use Rattle.kp_model.specs.Store.{Store, empty, latest, last, with_entry, kept, truncated, commit_answer, commit_leaves}
 use Rattle.kp_model.specs.Codes.{store_code}
 use Rattle.kp_top.specs.declared.line.StoreLine.{StoreLine}

@@ -1,4 +1,4 @@
-use Rattle.std.proofs.Common.{◌≡◌, sym}
+use Rattle.std.proofs.Common.{sym}
 use Rattle.kp_top.specs.Words.{words_of}
 use Rattle.kp_top.proofs.LineWords.{no_line, text_line, of_first_words}
 use Rattle.kp_top.proofs.line.read_line.Goals as goal

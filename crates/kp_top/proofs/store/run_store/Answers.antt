@@ -1,6 +1,5 @@
-use Rattle.std.proofs.Common.{◌≡◌, ◌∙◌, refl, sym, ap, subst, arith, ℕ, Some}
+use Rattle.std.proofs.Common.{◌≡◌, ◌∙◌, refl, ap, arith, Some}
 use Rattle.kp_model.specs.Store.{last}
-use Rattle.kp_top.specs.Words.{lines_of}
 use Rattle.kp_top.specs.Transcript.{Work, transcript, bad_line}
 use Rattle.kp_top.proofs.Runs.{begins, ends, none_bad, go_on, part_on, stops, bad_on, bad_found, count_on, nothing_yet, blank_last}
 use Rattle.kp_top.proofs.store.run_store.Goals as goal

@@ -1,4 +1,4 @@
-use Rattle.std.proofs.Common.{◌≡◌, ◌∙◌, ◌≤◌, arith, length, length-drop, ap, take, List, ℕ}
+use Rattle.std.proofs.Common.{◌∙◌, arith, length, length-drop, ap}
 use Rattle.kp_top.proofs.LineSplits.{tail_whole}
 use Rattle.kp_top.proofs.Streams.{wrote_more}
 use Rattle.kp_top.proofs.stream.write_all.Goals as goal

@@ -1,5 +1,5 @@
 -- What was found to be done is what the commands do.
-use Rattle.std.proofs.Common.{◌≡◌, ℕ, ◌+◌, ◌-◌, min, Bool, true, false, cond, List, length, Option, Some, None, is_some, refl, ap, sym, subst, ◌∙◌, arith}
+use Rattle.std.proofs.Common.{◌≡◌, ℕ, ◌+◌, ◌-◌, min, Bool, true, false, not, cond, List, length, Option, Some, None, is_some, refl, ap, sym, subst, ◌∙◌, arith}
 use Rattle.std.specs.Prelude.{ℤ, ◌==◌, if◌then◌else◌, IfOk, Result, Ok, Err}
 use Rattle.std.specs.Ordering.{eq_by_cmp, is_eq}
 use Rattle.std.proofs.lemmas.Cmp.{tied_itself}
@@ -17,9 +17,10 @@ use Rattle.kp_cells.specs.Parts.{parts_of}
 use Rattle.kp_prep.specs.declared.plan.Act.{Act}
 use Rattle.kp_prep.specs.declared.plan.Found.{Found}
 use Rattle.kp_prep.specs.declared.plan.Effect.TheVariants as effect
-use Rattle.kp_prep.specs.Effects.{MayCreate, IsChildPath, IsFound, IsAct, effected, made_act, gone_act, set_act, with_child_shown, without_child_shown, with_data_shown}
+use Rattle.kp_prep.specs.Effects.{OwnerIs, MayCreate, IsChildPath, IsFound, IsAct, effected, made_act, gone_act, set_act, with_child_shown, without_child_shown, with_data_shown}
 use Rattle.kp_prep.proofs.Paths.{path_total}
 use Rattle.kp_prep.proofs.Kids.{IsRooted, count-over, count_path-made}
+use Rattle.kp_prep.proofs.Owners.{owner_in, get-owners}
 use Rattle.kp_prep.proofs.Outcomes.{stat-count, parts-made, parts-gone, parts-set}
 use Rattle.kp_prep.proofs.Seen.{meta_none, meta_some}
 
@@ -67,6 +68,7 @@ created_does s ids i t path bytes acl with_stat up good h =
           ∙ sym (parts-made s path p.0 v p.1 h.child.1 refl refl refl w refl rooted free)
           ∙ sym (ap (λ z. parts_of (record s { nodes = z })) grow);
       on = (refl, h.child);
+      owner = tt;
     })
 
 -- where no check fails, the outcome is that of the command
@@ -77,6 +79,15 @@ unless_none path s f o a e h = subst (λ f. IsAct path s (unless f s o) a) (sym 
 pub if_ok_then : {X E : Type 0} (P Q : X → Type 0) (r : Result X E) → IfOk r P → ((x : X) → P x → Q x) → IfOk r Q
 if_ok_then P Q (Ok x) h f = f x h
 if_ok_then P Q (Err e) h f = tt
+
+-- the owner that is told is the one that is there
+owner_told : (s : State) (path : List ℕ) (n : Node) (owner : ℕ) → map.get s.nodes path ≡ Some n → owner ≡ n.owner → OwnerIs (parts_of s).owners owner path
+unfolding parts_of
+owner_told s path n owner there is apart =
+    get-owners s.nodes path
+    ∙ ap owner_in there
+    ∙ ap (λ o. cond (not (o == 0)) (Some o) None) (sym is)
+    ∙ ap (λ b. cond (not b) (Some owner) None) apart
 
 pub deleted_does : (s : State) (i : ℕ) (path : List ℕ) (found : Found) (left : ℕ) → meta_at s.nodes (parent path) ≡ Some found.up → meta_at s.nodes path ≡ Some found.meta → IsChildPath path → left ≡ min (length (children s.nodes (parent path)) - 1) 2147483647 → IsAct path s (deleted s i path) (gone_act i path found left)
 unfolding deleted shrunk
@@ -96,6 +107,7 @@ deleted_does s i path found left above there child is_left =
           ∙ sym (parts-gone s path p.0 v p.1 child.1 refl refl refl q.0 q.1)
           ∙ sym (ap (λ z. parts_of (record s { nodes = z })) shrink);
       on = (refl, child);
+      owner = owner_told s path q.0 found.meta.owner q.1 owner;
     }
 
 got : (nodes : Nodes) (path : List ℕ) (v : Node) → map.get (map.insert nodes path v) path ≡ Some v
@@ -119,4 +131,5 @@ set_does s ids perm i t path bytes version m h =
           ∙ sym (parts-set s path p.0 v p.1 refl refl)
           ∙ sym (ap (λ z. parts_of (record s { nodes = z })) now);
       on = (refl, h.well_formed);
+      owner = tt;
     })

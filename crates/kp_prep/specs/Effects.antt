@@ -128,6 +128,24 @@ next_after n (Some m) = m
 abbrev pub planned : Parts → Plan → Parts
 planned p plan = effected (record p { sessions = renewed p.sessions plan.session; next = next_after p.next plan.next }) plan.effect
 
+-- the owner that a path has is this one, where it is one
+abbrev pub OwnerIs : map.FinMap path_cmp ℕ → ℕ → List ℕ → Type 0
+OwnerIs owners owner path = (owner == 0) ≡ false → map.get owners path ≡ Some owner
+
+-- an effect tells the owner of a node that is removed
+abbrev pub TellsOwner : Parts → Effect → Type 0
+TellsOwner p effect.Nothing = Unit {0}
+TellsOwner p (effect.Make path bytes acl meta up) = Unit {0}
+TellsOwner p (effect.Remove path up owner) = OwnerIs p.owners owner path
+TellsOwner p (effect.Set path bytes meta) = Unit {0}
+
+-- the paths of an effect are those of nodes
+abbrev pub IsFit : Effect → Type 0
+IsFit effect.Nothing = Unit {0}
+IsFit (effect.Make path bytes acl meta up) = IsChildPath path
+IsFit (effect.Remove path up owner) = IsChildPath path
+IsFit (effect.Set path bytes meta) = IsTrue (is_well_formed path)
+
 -- the effect is one on the node at this path
 abbrev pub IsOn : List ℕ → Effect → Type 0
 IsOn q effect.Nothing = Unit {0}
@@ -153,6 +171,7 @@ pub record IsAct (path : List ℕ) (s : State) (o : Outcome) (a : Act) : Type 0 
   pub events : a.prepared.events ≡ o.events
   pub parts : effected (parts_of s) a.effect ≡ parts_of o.state
   pub on : IsOn path a.effect
+  pub owner : TellsOwner (parts_of s) a.effect
 
 -- an answer, and nothing that is done
 abbrev pub answer_plan : Reply → Plan
@@ -171,3 +190,5 @@ pub record IsPlan (s : State) (o : Outcome) (p : Plan) : Type 0 where
   pub reply : p.prepared.reply ≡ o.reply
   pub events : p.prepared.events ≡ o.events
   pub parts : planned (parts_of s) p ≡ parts_of o.state
+  pub owner : TellsOwner (parts_of s) p.effect
+  pub fit : IsFit p.effect

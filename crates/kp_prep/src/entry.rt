@@ -32,7 +32,8 @@ pub(crate) fn plan<V: View>(alloc: Global, view: &V, index: u64, entry: &Entry) 
         Body::Noop => Ok(answer(alloc, Reply::Done)),
         Body::OpenSession { timeout, passwd, origin } => Ok(open(alloc, view, *timeout, *passwd, *origin)),
         Body::Write { session, epoch, seq, cmd } => write(alloc, view, stamp, *session, *epoch, *seq, cmd),
-        _ => Ok(answer(alloc, Reply::Stale)),
+        Body::Attach { .. } => Ok(answer(alloc, Reply::Stale)),
+        Body::Expire { .. } => Ok(answer(alloc, Reply::Stale)),
     }
 }
 

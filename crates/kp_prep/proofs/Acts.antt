@@ -1,6 +1,6 @@
 -- What was found to be done is what the commands do.
 use Rattle.std.proofs.Common.{◌≡◌, ℕ, ◌+◌, ◌-◌, min, Bool, true, false, not, cond, List, length, Option, Some, None, is_some, refl, ap, sym, subst, ◌∙◌, arith}
-use Rattle.std.specs.Prelude.{ℤ, ◌==◌, if◌then◌else◌, IfOk, Result, Ok, Err}
+use Rattle.std.specs.Prelude.{ℤ, ◌==◌, if◌then◌else◌, IsTrue, IfOk, Result, Ok, Err}
 use Rattle.std.specs.Ordering.{eq_by_cmp, is_eq}
 use Rattle.std.proofs.lemmas.Cmp.{tied_itself}
 use Rattle.std.specs.FinMap as map
@@ -10,7 +10,9 @@ use Rattle.kp_model.specs.declared.node.Meta.{Meta}
 use Rattle.kp_model.specs.declared.node.Node.{Node}
 use Rattle.kp_model.specs.declared.reply.Reply.TheVariants as reply
 use Rattle.kp_model.specs.Good.{IsGood}
-use Rattle.kp_model.specs.Path.{parent, name}
+use Rattle.std.specs.Str.{bytes_eq}
+use Rattle.std.proofs.lemmas.Slice.Eq.{bytes_eq-Decides}
+use Rattle.kp_model.specs.Path.{root, parent, name, is_well_formed}
 use Rattle.kp_model.specs.State.{State, Nodes, path_cmp, meta_of, meta_at, stat, children, kids}
 use Rattle.kp_model.specs.Step.{Outcome, unless, changed, changed_reply, grown, created, shrunk, deleted, set, with_child, without_child, with_data, new_node, create_fails, version_fails}
 use Rattle.kp_cells.specs.Parts.{parts_of}
@@ -31,6 +33,14 @@ if_ok P (Err y) x e p = tt
 
 rooted_in : (s : State) → IsGood s → IsRooted s.nodes
 rooted_in s good q n there apart = let h = good.places q n there apart in ap is_some h.1.1
+
+-- the path of a node is well formed
+formed : (s : State) → IsGood s → (p : List ℕ) (n : Node) → map.get s.nodes p ≡ Some n → IsTrue (is_well_formed p)
+unfolding is_well_formed
+formed s good p n there = cases (bytes_eq p root) refl where
+  cases : (b : Bool) → bytes_eq p root ≡ b → IsTrue (is_well_formed p)
+  cases false e = (good.places p n there e).0
+  cases true e = subst (λ q. IsTrue (is_well_formed q)) (sym ((bytes_eq-Decides p root).0 e)) refl
 
 -- as many names as children
 pub kids_counted : (nodes : Nodes) (p : List ℕ) → length (kids nodes p) ≡ length (children nodes p)
@@ -67,7 +77,7 @@ created_does s ids i t path bytes acl with_stat up good h =
       parts = ap (λ m. effected (parts_of s) (effect.Make path bytes acl (meta_of 0 w) m)) shown
           ∙ sym (parts-made s path p.0 v p.1 h.child.1 refl refl refl w refl rooted free)
           ∙ sym (ap (λ z. parts_of (record s { nodes = z })) grow);
-      on = (refl, h.child);
+      on = (refl, record { child = h.child; above = formed s good (parent path) p.0 p.1 });
       owner = tt;
     })
 
@@ -89,9 +99,9 @@ owner_told s path n owner there is apart =
     ∙ ap (λ o. cond (not (o == 0)) (Some o) None) (sym is)
     ∙ ap (λ b. cond (not b) (Some owner) None) apart
 
-pub deleted_does : (s : State) (i : ℕ) (path : List ℕ) (found : Found) (left : ℕ) → meta_at s.nodes (parent path) ≡ Some found.up → meta_at s.nodes path ≡ Some found.meta → IsChildPath path → left ≡ min (length (children s.nodes (parent path)) - 1) 2147483647 → IsAct path s (deleted s i path) (gone_act i path found left)
+pub deleted_does : (s : State) (i : ℕ) (path : List ℕ) (found : Found) (left : ℕ) → IsGood s → meta_at s.nodes (parent path) ≡ Some found.up → meta_at s.nodes path ≡ Some found.meta → IsChildPath path → left ≡ min (length (children s.nodes (parent path)) - 1) 2147483647 → IsAct path s (deleted s i path) (gone_act i path found left)
 unfolding deleted shrunk
-deleted_does s i path found left above there child is_left =
+deleted_does s i path found left good above there child is_left =
     let p = meta_some s.nodes (parent path) found.up (sym above) in
     let q = meta_some s.nodes path found.meta (sym there) in
     let v : Node = without_child i p.0 in
@@ -106,7 +116,7 @@ deleted_does s i path found left above there child is_left =
           ∙ ap (λ o. effected (parts_of s) (effect.Remove path (meta_of (c - 1) v) o)) owner
           ∙ sym (parts-gone s path p.0 v p.1 child.1 refl refl refl q.0 q.1)
           ∙ sym (ap (λ z. parts_of (record s { nodes = z })) shrink);
-      on = (refl, child);
+      on = (refl, record { child = child; above = formed s good (parent path) p.0 p.1 });
       owner = owner_told s path q.0 found.meta.owner q.1 owner;
     }
 

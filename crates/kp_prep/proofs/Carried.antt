@@ -1,6 +1,6 @@
 -- The latest parts after the writes of a plan.
 use Rattle.std.proofs.Common.{◌≡◌, ℕ, Bool, true, false, not, cond, List, Option, Some, None, refl, ap, sym, subst, ◌∙◌}
-use Rattle.std.specs.Prelude.{◌==◌, if◌then◌else◌, unwrap_or}
+use Rattle.std.specs.Prelude.{◌==◌, if◌then◌else◌, unwrap_or, Result, Ok, Err, OnOk, OnErr}
 use Rattle.std.specs.Option.{option_map_or}
 use Rattle.std.specs.Ordering.{eq_by_cmp, is_eq, nat_cmp}
 use Rattle.std.specs.Cmp.{nat_cmp_total}
@@ -12,13 +12,14 @@ use Rattle.kp_layers.proofs.Latest.{latest_written}
 use Rattle.kp_model.specs.declared.session.Session.{Session}
 use Rattle.kp_model.specs.declared.node.Meta.{Meta}
 use Rattle.kp_model.specs.Path.{parent}
-use Rattle.kp_model.specs.State.{path_cmp}
-use Rattle.kp_cells.specs.Overlays.{Overlays, latest_parts, all_begun, next_in, with_owned}
-use Rattle.kp_cells.specs.Parts.{Parts}
+use Rattle.kp_model.specs.State.{State, path_cmp}
+use Rattle.kp_model.specs.Step.{Outcome}
+use Rattle.kp_cells.specs.Overlays.{Overlays, IsOpen, latest_parts, latest_state, all_begun, next_in, with_owned}
+use Rattle.kp_cells.specs.Parts.{Parts, parts_of, whole, FitTogether}
 use Rattle.kp_prep.specs.declared.plan.Effect.{Effect}
 use Rattle.kp_prep.specs.declared.plan.Effect.TheVariants as effect
 use Rattle.kp_prep.specs.declared.plan.Plan.{Plan}
-use Rattle.kp_prep.specs.Effects.{effected, planned, renewed, next_after, disowned, OwnerIs, TellsOwner}
+use Rattle.kp_prep.specs.Effects.{effected, planned, renewed, next_after, disowned, OwnerIs, TellsOwner, IsPlan}
 use Rattle.kp_prep.specs.Staged.{given_up, staged_effect, staged_session, staged_next, staged_plan}
 
 -- two writes of the same part
@@ -98,11 +99,34 @@ plan_carried o p h =
     effect_carried t p.effect (tells (latest_parts o) (latest_parts t) p.effect (sym (ap latest_of (owners_stay o p.session p.next))) h)
     ∙ ap (λ z. effected z p.effect) (next_carried s p.next ∙ ap (λ (z : Parts). record z { next = next_after z.next p.next }) (session_carried o p.session))
 
+-- the parts of a state with an entry's plan carried out are those of the state after the entry
+pub stands : (o : Overlays) (s : State) (out : Outcome) (p : Plan) → latest_parts o ≡ parts_of s → IsPlan s out p → latest_parts (staged_plan o p) ≡ parts_of out.state
+stands o s out p same h =
+    plan_carried o p (subst (λ z. TellsOwner z p.effect) (sym same) h.owner)
+    ∙ ap (λ z. planned z p) same
+    ∙ h.parts
+
+-- parts that fit together are those of the latest state
+pub fitting : (o : Overlays) → FitTogether (latest_parts o) → latest_parts o ≡ parts_of (latest_state o)
+unfolding parts_of whole
+fitting o h = h
+
 -- without its writes the open layer is as before
-begun_given : (o : Overlays) (owner : ℕ) (path : List ℕ) → all_begun (given_up o owner path) ≡ all_begun o
+pub begun_owned : (o : Overlays) (owner : ℕ) (path : List ℕ) → all_begun (with_owned o path owner false) ≡ all_begun o
 unfolding with_owned
-begun_given o owner path = cases (owner == 0) (option_map_or (λ n. n == owner) (map.get (latest_of o.owners) path) false) where
-  cases : (b t : Bool) → all_begun (if b then o else (if t then record o { owners = written o.owners path None } else o)) ≡ all_begun o
-  cases true t = refl
-  cases false true = refl
-  cases false false = refl
+begun_owned o owner path = cases (option_map_or (λ n. n == owner) (map.get (latest_of o.owners) path) false) where
+  cases : (t : Bool) → all_begun (if t then record o { owners = written o.owners path None } else o) ≡ all_begun o
+  cases true = refl
+  cases false = refl
+
+pub open_owned : (o : Overlays) (owner : ℕ) (path : List ℕ) → IsOpen o → IsOpen (with_owned o path owner false)
+unfolding with_owned
+open_owned o owner path h = cases (option_map_or (λ n. n == owner) (map.get (latest_of o.owners) path) false) where
+  cases : (t : Bool) → IsOpen (if t then record o { owners = written o.owners path None } else o)
+  cases true = h
+  cases false = h
+
+-- what holds of both outcomes
+pub either : {X E : Type 0} (P : Overlays → Type 0) (r : Result X E) (new old next : Overlays) → OnOk r (new ≡ next) → OnErr r (new ≡ old) → P next → P old → P new
+either P (Ok x) new old next ok err p q = subst P (sym ok) p
+either P (Err e) new old next ok err p q = subst P (sym err) q

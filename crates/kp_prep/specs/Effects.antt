@@ -24,6 +24,11 @@ use Rattle.kp_prep.specs.declared.plan.Plan.{Plan}
 abbrev pub IsChildPath : List ℕ → Type 0
 IsChildPath path = IsTrue (is_well_formed path) × (bytes_eq path root ≡ false)
 
+-- such a path, whose parent is a path too
+pub record IsFamily (path : List ℕ) : Type 0 where
+  pub child : IsChildPath path
+  pub above : IsTrue (is_well_formed (parent path))
+
 -- a node may be made at the path, whose parent shows these numbers
 pub record MayCreate (nodes : Nodes) (ids : List (List ℕ)) (path : List ℕ) (up : Meta) : Type 0 where
   pub passes : create_fails nodes ids path ≡ None
@@ -142,15 +147,15 @@ TellsOwner p (effect.Set path bytes meta) = Unit {0}
 -- the paths of an effect are those of nodes
 abbrev pub IsFit : Effect → Type 0
 IsFit effect.Nothing = Unit {0}
-IsFit (effect.Make path bytes acl meta up) = IsChildPath path
-IsFit (effect.Remove path up owner) = IsChildPath path
+IsFit (effect.Make path bytes acl meta up) = IsFamily path
+IsFit (effect.Remove path up owner) = IsFamily path
 IsFit (effect.Set path bytes meta) = IsTrue (is_well_formed path)
 
 -- the effect is one on the node at this path
 abbrev pub IsOn : List ℕ → Effect → Type 0
 IsOn q effect.Nothing = Unit {0}
-IsOn q (effect.Make path bytes acl meta up) = (path ≡ q) × IsChildPath path
-IsOn q (effect.Remove path up owner) = (path ≡ q) × IsChildPath path
+IsOn q (effect.Make path bytes acl meta up) = (path ≡ q) × IsFamily path
+IsOn q (effect.Remove path up owner) = (path ≡ q) × IsFamily path
 IsOn q (effect.Set path bytes meta) = (path ≡ q) × IsTrue (is_well_formed path)
 
 -- the path that a command names

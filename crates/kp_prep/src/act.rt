@@ -157,6 +157,7 @@ fn delete<V: View>(alloc: Global, view: &V, ids: &Paths, stamp: Stamp, path: &Te
 
 // A node is removed that shows these numbers, and its parent those.
 fn remove<V: View>(alloc: Global, view: &V, stamp: Stamp, path: &Text, found: Found) -> Result<Act, NoMemory>
+    requires sound { IsSound (V.state view.now) }
     requires up { meta_at (V.state view.now).nodes (parent path.now) ≡ Some found.up }
     requires there { meta_at (V.state view.now).nodes path.now ≡ Some found.meta }
     requires child { IsChildPath path.now }

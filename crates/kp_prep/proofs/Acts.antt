@@ -1,7 +1,7 @@
 -- What was found to be done is what the commands do.
 use Rattle.std.proofs.Common.{◌≡◌, ℕ, ◌+◌, ◌-◌, min, Bool, true, false, not, cond, List, length, Option, Some, None, is_some, refl, ap, sym, subst, ◌∙◌, arith}
 use Rattle.std.specs.Prelude.{ℤ, ◌==◌, if◌then◌else◌, IsTrue, IfOk, Result, Ok, Err}
-use Rattle.std.specs.Ordering.{eq_by_cmp, is_eq}
+use Rattle.std.specs.Ordering.{is_eq}
 use Rattle.std.proofs.lemmas.Cmp.{tied_itself}
 use Rattle.std.specs.FinMap as map
 use Rattle.std.proofs.lemmas.List.{length-map}
@@ -13,7 +13,7 @@ use Rattle.kp_model.specs.Good.{IsGood}
 use Rattle.std.specs.Str.{bytes_eq}
 use Rattle.std.proofs.lemmas.Slice.Eq.{bytes_eq-Decides}
 use Rattle.kp_model.specs.Path.{root, parent, name, is_well_formed}
-use Rattle.kp_model.specs.State.{State, Nodes, path_cmp, meta_of, meta_at, stat, children, kids}
+use Rattle.kp_model.specs.State.{State, Nodes, meta_of, meta_at, stat, children, kids}
 use Rattle.kp_model.specs.Step.{Outcome, unless, changed, changed_reply, grown, created, shrunk, deleted, set, with_child, without_child, with_data, new_node, create_fails, version_fails}
 use Rattle.kp_cells.specs.Parts.{parts_of}
 use Rattle.kp_prep.specs.declared.plan.Act.{Act}
@@ -70,7 +70,7 @@ created_does s ids i t path bytes acl with_stat up good h =
     let grow : map.insert (changed (with_child i) (parent path) (map.get s.nodes (parent path)) s.nodes) path w ≡ map.insert (map.insert s.nodes (parent path) v) path w = ap (λ o. map.insert (changed (with_child i) (parent path) o s.nodes) path w) p.1 in
     let shown : with_child_shown i up ≡ meta_of (length (children s.nodes (parent path)) + 1) v = ap (with_child_shown i) (p.2 ∙ stat_is s.nodes (parent path) p.0) ∙ one_more i (length (children s.nodes (parent path))) p.0 in
     let stat_new : stat (map.insert (changed (with_child i) (parent path) (map.get s.nodes (parent path)) s.nodes) path w) path w ≡ meta_of 0 w =
-        ap (λ z. stat z path w) grow ∙ stat-count (map.insert (map.insert s.nodes (parent path) v) path w) path w 0 (count_path-made s.nodes path p.0 v w p.1 h.child.1 rooted free) in
+    ap (λ z. stat z path w) grow ∙ stat-count (map.insert (map.insert s.nodes (parent path) v) path w) path w 0 (count_path-made s.nodes path p.0 v w p.1 h.child.1 rooted free) in
     subst (λ f. IsAct path s (unless f s (created s i t path bytes acl with_stat)) (made_act i t path bytes acl with_stat up)) (sym h.passes) (record {
       reply = ap (λ m. if with_stat then reply.PathStat path m else reply.Path path) (sym stat_new);
       events = refl;

@@ -1,8 +1,8 @@
 -- The latest parts after the writes of a plan.
-use Rattle.std.proofs.Common.{◌≡◌, ℕ, Bool, true, false, not, cond, List, Option, Some, None, refl, ap, sym, subst, ◌∙◌}
+use Rattle.std.proofs.Common.{◌≡◌, ℕ, Bool, true, false, cond, List, Option, Some, None, refl, ap, sym, subst, ◌∙◌}
 use Rattle.std.specs.Prelude.{◌==◌, if◌then◌else◌, unwrap_or, Result, Ok, Err, OnOk, OnErr}
 use Rattle.std.specs.Option.{option_map_or}
-use Rattle.std.specs.Ordering.{eq_by_cmp, is_eq, nat_cmp}
+use Rattle.std.specs.Ordering.{is_eq, nat_cmp}
 use Rattle.std.specs.Cmp.{nat_cmp_total}
 use Rattle.std.proofs.lemmas.Cmp.{tied_itself}
 use Rattle.std.proofs.lemmas.Bool.Decides.{Decides-eqb}
@@ -10,11 +10,10 @@ use Rattle.std.specs.FinMap as map
 use Rattle.kp_layers.specs.Layering.{Layering, latest_of, written}
 use Rattle.kp_layers.proofs.Latest.{latest_written}
 use Rattle.kp_model.specs.declared.session.Session.{Session}
-use Rattle.kp_model.specs.declared.node.Meta.{Meta}
 use Rattle.kp_model.specs.Path.{parent}
 use Rattle.kp_model.specs.State.{State, path_cmp}
 use Rattle.kp_model.specs.Step.{Outcome}
-use Rattle.kp_cells.specs.Overlays.{Overlays, IsOpen, latest_parts, latest_state, all_begun, next_in, with_owned}
+use Rattle.kp_cells.specs.Overlays.{Overlays, IsOpen, latest_parts, latest_state, all_begun, all_undone, marks_of, next_in, with_owned}
 use Rattle.kp_cells.specs.Parts.{Parts, parts_of, whole, FitTogether}
 use Rattle.kp_prep.specs.declared.plan.Effect.{Effect}
 use Rattle.kp_prep.specs.declared.plan.Effect.TheVariants as effect
@@ -130,3 +129,7 @@ open_owned o owner path h = cases (option_map_or (λ n. n == owner) (map.get (la
 pub either : {X E : Type 0} (P : Overlays → Type 0) (r : Result X E) (new old next : Overlays) → OnOk r (new ≡ next) → OnErr r (new ≡ old) → P next → P old → P new
 either P (Ok x) new old next ok err p q = subst P (sym ok) p
 either P (Err e) new old next ok err p q = subst P (sym err) q
+
+-- going back to the mark of an open layer without writes gives the layers of before
+pub undone_all : (o p : Overlays) → p ≡ all_begun p → all_begun o ≡ p → all_undone o (marks_of p) ≡ p
+undone_all o p fresh same = ap (λ z. all_undone o (marks_of z)) fresh ∙ same

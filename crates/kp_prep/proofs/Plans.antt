@@ -1,5 +1,5 @@
 -- What was found of an entry is what it does.
-use Rattle.std.proofs.Common.{◌≡◌, ℕ, ◌+◌, Bool, true, false, not, ◌||◌, ◌&&◌, List, Option, Some, None, refl, ap, sym, subst, ◌∙◌}
+use Rattle.std.proofs.Common.{◌≡◌, ℕ, ◌+◌, true, false, not, ◌||◌, ◌&&◌, List, Option, Some, None, refl, ap, sym, subst, ◌∙◌}
 use Rattle.std.specs.Prelude.{ℤ, ◌==◌, nat_le, if◌then◌else◌}
 use Rattle.std.specs.FinMap as map
 use Rattle.kp_model.specs.LogEntry.{LogEntry}
@@ -17,7 +17,7 @@ use Rattle.kp_prep.specs.declared.plan.Act.{Act}
 use Rattle.kp_prep.specs.declared.plan.Plan.{Plan}
 use Rattle.kp_prep.specs.declared.plan.Effect.{Effect}
 use Rattle.kp_prep.specs.declared.plan.Effect.TheVariants as effect
-use Rattle.kp_prep.specs.Effects.{IsOn, IsFit, IsAct, IsPlan, effected, planned, answer_plan, opening_plan, acting_plan}
+use Rattle.kp_prep.specs.Effects.{IsOn, IsFit, IsAct, IsPlan, effected, answer_plan, opening_plan, acting_plan}
 
 -- an answer alone
 pub answered_is : (s : State) (applied : ℕ) (r : Reply) → IsPlan s (replies (record s { applied = applied }) r) (answer_plan r)

@@ -1,6 +1,5 @@
 -- The writes of a plan in the open layer.
-use Rattle.std.specs.Prelude.{◌≡◌, ℕ, Bool, true, false, ◌==◌, List, [], ◌∷◌, Option, Some, None, if◌then◌else◌}
-use Rattle.std.specs.FinMap as map
+use Rattle.std.specs.Prelude.{ℕ, true, false, ◌==◌, List, Option, Some, None, if◌then◌else◌}
 use Rattle.kp_model.specs.declared.session.Session.{Session}
 use Rattle.kp_model.specs.Path.{parent}
 use Rattle.kp_cells.specs.Overlays.{Overlays, with_meta, with_content, with_acl, with_child, with_owned, with_session, with_next}

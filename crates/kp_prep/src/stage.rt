@@ -67,7 +67,13 @@ fn stage_effect(cells: &mut Cells, effect: Effect) -> Result<(), NoMemory>
 {
     match effect {
         Effect::Nothing => Ok(()),
-        Effect::Make { path, bytes, acl, meta, up } => stage_made(cells, path.as_str(), bytes, acl, meta, up),
+        Effect::Make {
+            path,
+            bytes,
+            acl,
+            meta,
+            up,
+        } => stage_made(cells, path.as_str(), bytes, acl, meta, up),
         Effect::Remove { path, up, owner } => stage_gone(cells, path.as_str(), up, owner),
         Effect::Set { path, bytes, meta } => stage_set(cells, path.as_str(), bytes, meta),
     }
@@ -88,7 +94,14 @@ fn stage_up(cells: &mut Cells, path: &str, up: Meta) -> Result<(), NoMemory>
 }
 
 // Stages a node that is made, and its parent's numbers.
-fn stage_made(cells: &mut Cells, path: &str, bytes: Bytes, acl: Acls, meta: Meta, up: Meta) -> Result<(), NoMemory>
+fn stage_made(
+    cells: &mut Cells,
+    path: &str,
+    bytes: Bytes,
+    acl: Acls,
+    meta: Meta,
+    up: Meta,
+) -> Result<(), NoMemory>
     requires open { IsOpen cells.old }
     requires family { IsFamily path.now }
     ensures staged { OnOk result (cells.new ≡ with_child (with_acl (with_content (with_meta (with_meta cells.old (parent path.now) (Some up)) path.now (Some meta)) path.now (Some bytes)) path.now (Some acl)) path.now true) }

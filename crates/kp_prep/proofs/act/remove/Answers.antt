@@ -1,8 +1,6 @@
-use Rattle.std.proofs.Common.{◌≡◌, ℕ, ◌-◌, List, Option, Some, None, length, min, refl, ap, sym, subst, ◌∙◌}
+use Rattle.std.proofs.Common.{◌-◌, length, min, ap, sym, ◌∙◌}
 use Rattle.kp_model.specs.Path.{parent}
 use Rattle.kp_model.specs.State.{children}
-use Rattle.kp_model.specs.Step.{deleted, delete_fails}
-use Rattle.kp_prep.specs.Effects.{MayCreate, MayRemove, IsFound, IsAct}
 use Rattle.kp_prep.proofs.Acts.{if_ok, deleted_does, shown_kids}
 use Rattle.kp_prep.proofs.act.remove.Goals as goal
 

@@ -1,6 +1,6 @@
-use Rattle.std.proofs.Common.{◌≡◌, refl, ap, sym, subst, ◌∙◌}
+use Rattle.std.proofs.Common.{sym, subst}
 use Rattle.kp_model.specs.declared.reply.Reply.TheVariants as reply
-use Rattle.kp_model.specs.Step.{take_body, apply}
+use Rattle.kp_model.specs.Step.{take_body}
 use Rattle.kp_prep.specs.Effects.{IsPlan}
 use Rattle.kp_prep.proofs.Acts.{if_ok_then}
 use Rattle.kp_prep.proofs.Plans.{answered_is, planned_entry}

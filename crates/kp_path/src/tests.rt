@@ -17,6 +17,7 @@ fn tells_paths_from_other_texts(rt: HostRuntime) {
 }
 
 #[test]
+#[tactic(auto, unfolding(kp_model::specs::Path::is_well_formed))]
 fn parents_and_names(rt: HostRuntime) {
     assert_eq!(rt; parent("/"), None);
     assert_eq!(rt; parent("/a"), Some("/"));

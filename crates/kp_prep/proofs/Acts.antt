@@ -1,7 +1,7 @@
 -- What was found to be done is what the commands do.
-use Rattle.std.proofs.Common.{◌≡◌, ℕ, ◌+◌, ◌-◌, min, Bool, true, false, cond, List, length, Option, Some, None, is_some, refl, ap, sym, subst, ◌∙◌, arith}
-use Rattle.std.specs.Prelude.{ℤ, ◌==◌, if◌then◌else◌, IfOk, Result, Ok, Err}
-use Rattle.std.specs.Ordering.{eq_by_cmp, is_eq}
+use Rattle.std.proofs.Common.{◌≡◌, ℕ, ◌+◌, ◌-◌, min, Bool, true, false, not, cond, List, length, Option, Some, None, is_some, refl, ap, sym, subst, ◌∙◌, arith}
+use Rattle.std.specs.Prelude.{ℤ, ◌==◌, if◌then◌else◌, IsTrue, IfOk, Result, Ok, Err}
+use Rattle.std.specs.Ordering.{is_eq}
 use Rattle.std.proofs.lemmas.Cmp.{tied_itself}
 use Rattle.std.specs.FinMap as map
 use Rattle.std.proofs.lemmas.List.{length-map}
@@ -10,16 +10,19 @@ use Rattle.kp_model.specs.declared.node.Meta.{Meta}
 use Rattle.kp_model.specs.declared.node.Node.{Node}
 use Rattle.kp_model.specs.declared.reply.Reply.TheVariants as reply
 use Rattle.kp_model.specs.Good.{IsGood}
-use Rattle.kp_model.specs.Path.{parent, name}
-use Rattle.kp_model.specs.State.{State, Nodes, path_cmp, meta_of, meta_at, stat, children, kids}
+use Rattle.std.specs.Str.{bytes_eq}
+use Rattle.std.proofs.lemmas.Slice.Eq.{bytes_eq-Decides}
+use Rattle.kp_model.specs.Path.{root, parent, name, is_well_formed}
+use Rattle.kp_model.specs.State.{State, Nodes, meta_of, meta_at, stat, children, kids}
 use Rattle.kp_model.specs.Step.{Outcome, unless, changed, changed_reply, grown, created, shrunk, deleted, set, with_child, without_child, with_data, new_node, create_fails, version_fails}
 use Rattle.kp_cells.specs.Parts.{parts_of}
 use Rattle.kp_prep.specs.declared.plan.Act.{Act}
 use Rattle.kp_prep.specs.declared.plan.Found.{Found}
 use Rattle.kp_prep.specs.declared.plan.Effect.TheVariants as effect
-use Rattle.kp_prep.specs.Effects.{MayCreate, IsChildPath, IsFound, IsAct, effected, made_act, gone_act, set_act, with_child_shown, without_child_shown, with_data_shown}
+use Rattle.kp_prep.specs.Effects.{OwnerIs, MayCreate, IsChildPath, IsFound, IsAct, effected, made_act, gone_act, set_act, with_child_shown, without_child_shown, with_data_shown}
 use Rattle.kp_prep.proofs.Paths.{path_total}
 use Rattle.kp_prep.proofs.Kids.{IsRooted, count-over, count_path-made}
+use Rattle.kp_prep.proofs.Owners.{owner_in, get-owners}
 use Rattle.kp_prep.proofs.Outcomes.{stat-count, parts-made, parts-gone, parts-set}
 use Rattle.kp_prep.proofs.Seen.{meta_none, meta_some}
 
@@ -30,6 +33,14 @@ if_ok P (Err y) x e p = tt
 
 rooted_in : (s : State) → IsGood s → IsRooted s.nodes
 rooted_in s good q n there apart = let h = good.places q n there apart in ap is_some h.1.1
+
+-- the path of a node is well formed
+formed : (s : State) → IsGood s → (p : List ℕ) (n : Node) → map.get s.nodes p ≡ Some n → IsTrue (is_well_formed p)
+unfolding is_well_formed
+formed s good p n there = cases (bytes_eq p root) refl where
+  cases : (b : Bool) → bytes_eq p root ≡ b → IsTrue (is_well_formed p)
+  cases false e = (good.places p n there e).0
+  cases true e = subst (λ q. IsTrue (is_well_formed q)) (sym ((bytes_eq-Decides p root).0 e)) refl
 
 -- as many names as children
 pub kids_counted : (nodes : Nodes) (p : List ℕ) → length (kids nodes p) ≡ length (children nodes p)
@@ -59,14 +70,15 @@ created_does s ids i t path bytes acl with_stat up good h =
     let grow : map.insert (changed (with_child i) (parent path) (map.get s.nodes (parent path)) s.nodes) path w ≡ map.insert (map.insert s.nodes (parent path) v) path w = ap (λ o. map.insert (changed (with_child i) (parent path) o s.nodes) path w) p.1 in
     let shown : with_child_shown i up ≡ meta_of (length (children s.nodes (parent path)) + 1) v = ap (with_child_shown i) (p.2 ∙ stat_is s.nodes (parent path) p.0) ∙ one_more i (length (children s.nodes (parent path))) p.0 in
     let stat_new : stat (map.insert (changed (with_child i) (parent path) (map.get s.nodes (parent path)) s.nodes) path w) path w ≡ meta_of 0 w =
-        ap (λ z. stat z path w) grow ∙ stat-count (map.insert (map.insert s.nodes (parent path) v) path w) path w 0 (count_path-made s.nodes path p.0 v w p.1 h.child.1 rooted free) in
+    ap (λ z. stat z path w) grow ∙ stat-count (map.insert (map.insert s.nodes (parent path) v) path w) path w 0 (count_path-made s.nodes path p.0 v w p.1 h.child.1 rooted free) in
     subst (λ f. IsAct path s (unless f s (created s i t path bytes acl with_stat)) (made_act i t path bytes acl with_stat up)) (sym h.passes) (record {
       reply = ap (λ m. if with_stat then reply.PathStat path m else reply.Path path) (sym stat_new);
       events = refl;
       parts = ap (λ m. effected (parts_of s) (effect.Make path bytes acl (meta_of 0 w) m)) shown
           ∙ sym (parts-made s path p.0 v p.1 h.child.1 refl refl refl w refl rooted free)
           ∙ sym (ap (λ z. parts_of (record s { nodes = z })) grow);
-      on = (refl, h.child);
+      on = (refl, record { child = h.child; above = formed s good (parent path) p.0 p.1 });
+      owner = tt;
     })
 
 -- where no check fails, the outcome is that of the command
@@ -78,9 +90,18 @@ pub if_ok_then : {X E : Type 0} (P Q : X → Type 0) (r : Result X E) → IfOk r
 if_ok_then P Q (Ok x) h f = f x h
 if_ok_then P Q (Err e) h f = tt
 
-pub deleted_does : (s : State) (i : ℕ) (path : List ℕ) (found : Found) (left : ℕ) → meta_at s.nodes (parent path) ≡ Some found.up → meta_at s.nodes path ≡ Some found.meta → IsChildPath path → left ≡ min (length (children s.nodes (parent path)) - 1) 2147483647 → IsAct path s (deleted s i path) (gone_act i path found left)
+-- the owner that is told is the one that is there
+owner_told : (s : State) (path : List ℕ) (n : Node) (owner : ℕ) → map.get s.nodes path ≡ Some n → owner ≡ n.owner → OwnerIs (parts_of s).owners owner path
+unfolding parts_of
+owner_told s path n owner there is apart =
+    get-owners s.nodes path
+    ∙ ap owner_in there
+    ∙ ap (λ o. cond (not (o == 0)) (Some o) None) (sym is)
+    ∙ ap (λ b. cond (not b) (Some owner) None) apart
+
+pub deleted_does : (s : State) (i : ℕ) (path : List ℕ) (found : Found) (left : ℕ) → IsGood s → meta_at s.nodes (parent path) ≡ Some found.up → meta_at s.nodes path ≡ Some found.meta → IsChildPath path → left ≡ min (length (children s.nodes (parent path)) - 1) 2147483647 → IsAct path s (deleted s i path) (gone_act i path found left)
 unfolding deleted shrunk
-deleted_does s i path found left above there child is_left =
+deleted_does s i path found left good above there child is_left =
     let p = meta_some s.nodes (parent path) found.up (sym above) in
     let q = meta_some s.nodes path found.meta (sym there) in
     let v : Node = without_child i p.0 in
@@ -95,7 +116,8 @@ deleted_does s i path found left above there child is_left =
           ∙ ap (λ o. effected (parts_of s) (effect.Remove path (meta_of (c - 1) v) o)) owner
           ∙ sym (parts-gone s path p.0 v p.1 child.1 refl refl refl q.0 q.1)
           ∙ sym (ap (λ z. parts_of (record s { nodes = z })) shrink);
-      on = (refl, child);
+      on = (refl, record { child = child; above = formed s good (parent path) p.0 p.1 });
+      owner = owner_told s path q.0 found.meta.owner q.1 owner;
     }
 
 got : (nodes : Nodes) (path : List ℕ) (v : Node) → map.get (map.insert nodes path v) path ≡ Some v
@@ -119,4 +141,5 @@ set_does s ids perm i t path bytes version m h =
           ∙ sym (parts-set s path p.0 v p.1 refl refl)
           ∙ sym (ap (λ z. parts_of (record s { nodes = z })) now);
       on = (refl, h.well_formed);
+      owner = tt;
     })

@@ -5,3 +5,4 @@ pub mod Outcomes
 pub mod Seen
 pub mod Acts
 pub mod Plans
+pub mod Carried

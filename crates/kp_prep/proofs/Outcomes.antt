@@ -1,17 +1,13 @@
 -- The parts of the state after a command, from what was seen before it.
-use Rattle.std.proofs.Common.{◌≡◌, ℕ, ◌+◌, ◌-◌, min, Bool, true, false, not, cond, List, length, Option, Some, None, is_some, refl, ap, sym, subst, ◌∙◌, arith}
+use Rattle.std.proofs.Common.{◌≡◌, ℕ, ◌+◌, ◌-◌, Bool, true, false, not, cond, List, length, Some, None, refl, ap, sym, ◌∙◌}
 use Rattle.std.specs.Prelude.{◌==◌}
 use Rattle.std.specs.Str.{bytes_eq}
-use Rattle.std.specs.Ordering.{eq_by_cmp}
 use Rattle.std.specs.FinMap as map
-use Rattle.kp_model.specs.declared.node.Acl.{Acl}
-use Rattle.kp_model.specs.declared.node.Meta.{Meta}
 use Rattle.kp_model.specs.declared.node.Node.{Node}
 use Rattle.kp_model.specs.Path.{root, parent}
-use Rattle.kp_model.specs.State.{State, Nodes, path_cmp, children, meta_of, stat}
-use Rattle.kp_model.specs.Step.{rises, with_child, without_child, with_data, new_node}
+use Rattle.kp_model.specs.State.{State, Nodes, children, meta_of, stat}
 use Rattle.kp_cells.specs.Mapped.{mapped, chosen}
-use Rattle.kp_cells.specs.Parts.{Parts, parts_of}
+use Rattle.kp_cells.specs.Parts.{parts_of}
 use Rattle.kp_cells.proofs.Maps.{picked, mapped-insert, mapped-remove, mapped-over, chosen-insert, chosen-over, chosen-remove}
 use Rattle.kp_prep.specs.Effects.{effected, disowned}
 use Rattle.kp_prep.specs.declared.plan.Effect.TheVariants as effect

@@ -1,5 +1,5 @@
 -- What was found of an entry is what it does.
-use Rattle.std.proofs.Common.{◌≡◌, ℕ, ◌+◌, Bool, true, false, not, ◌||◌, ◌&&◌, List, Option, Some, None, refl, ap, sym, subst, ◌∙◌}
+use Rattle.std.proofs.Common.{◌≡◌, ℕ, ◌+◌, true, false, not, ◌||◌, ◌&&◌, List, Option, Some, None, refl, ap, sym, subst, ◌∙◌}
 use Rattle.std.specs.Prelude.{ℤ, ◌==◌, nat_le, if◌then◌else◌}
 use Rattle.std.specs.FinMap as map
 use Rattle.kp_model.specs.LogEntry.{LogEntry}
@@ -17,12 +17,12 @@ use Rattle.kp_prep.specs.declared.plan.Act.{Act}
 use Rattle.kp_prep.specs.declared.plan.Plan.{Plan}
 use Rattle.kp_prep.specs.declared.plan.Effect.{Effect}
 use Rattle.kp_prep.specs.declared.plan.Effect.TheVariants as effect
-use Rattle.kp_prep.specs.Effects.{IsAct, IsPlan, effected, planned, answer_plan, opening_plan, acting_plan}
+use Rattle.kp_prep.specs.Effects.{IsOn, IsFit, IsAct, IsPlan, effected, answer_plan, opening_plan, acting_plan}
 
 -- an answer alone
 pub answered_is : (s : State) (applied : ℕ) (r : Reply) → IsPlan s (replies (record s { applied = applied }) r) (answer_plan r)
 unfolding parts_of
-answered_is s applied r = record { reply = refl; events = refl; parts = refl }
+answered_is s applied r = record { reply = refl; events = refl; parts = refl; owner = tt; fit = tt }
 
 -- a session that is not opened
 pub opened_late : (s : State) (applied timeout : ℕ) (passwd : List ℕ) (origin : Origin) → (is_held s.sessions origin || nat_le 4611686018427387904 s.next) ≡ true → IsPlan s (opened (record s { applied = applied }) timeout passwd origin) (answer_plan reply.Stale)
@@ -33,7 +33,7 @@ opened_late s applied timeout passwd origin late =
 
 opened_is : (s : State) (applied : ℕ) (x : Session) → IsPlan s (replies (record s { applied = applied; sessions = map.insert s.sessions s.next x; next = s.next + 1 }) (reply.Session s.next)) (opening_plan s.next x)
 unfolding parts_of
-opened_is s applied x = record { reply = refl; events = refl; parts = refl }
+opened_is s applied x = record { reply = refl; events = refl; parts = refl; owner = tt; fit = tt }
 
 -- a session that is opened
 pub opened_new : (s : State) (applied timeout : ℕ) (passwd : List ℕ) (origin : Origin) → (is_held s.sessions origin || nat_le 4611686018427387904 s.next) ≡ false → IsPlan s (opened (record s { applied = applied }) timeout passwd origin) (opening_plan s.next (new_session timeout passwd origin))
@@ -94,6 +94,12 @@ parts_sessions : (s : State) (id : ℕ) (x : Session) (e : Effect) → effected 
 unfolding parts_of
 parts_sessions s id x e = refl
 
+fit_on : (path : List ℕ) (e : Effect) → IsOn path e → IsFit e
+fit_on path effect.Nothing h = tt
+fit_on path (effect.Make q bytes acl meta up) h = h.1
+fit_on path (effect.Remove q up owner) h = h.1
+fit_on path (effect.Set q bytes meta) h = h.1
+
 -- an act of a session that has the number then
 pub acted_is : (path : List ℕ) (s : State) (ids : List (List ℕ)) (i t id : ℕ) (x : Session) (c : Cmd) (a : Act) → IsAct path s (act s ids i t c) a → IsPlan s (act (record s { applied = i; sessions = map.insert s.sessions id x }) ids i t c) (acting_plan id x a)
 acted_is path s ids i t id x c a h =
@@ -105,9 +111,12 @@ acted_is path s ids i t id x c a h =
           ∙ effected-moved (parts_of s) sessions a.effect
           ∙ ap (λ (z : Parts). record z { sessions = sessions }) h.parts
           ∙ parts-moved i sessions (act s ids i t c).state;
+      owner = h.owner;
+      fit = fit_on path a.effect h.on;
     })
 
 -- the entry is taken at the index behind the applied one
-pub apply_at : (s : State) (i : ℕ) (e : LogEntry) (p : Plan) → s.applied + 1 ≡ i → IsPlan s (take_body (record s { applied = i }) i e.time e.body) p → IsPlan s (apply s e) p
+pub planned_entry : (s : State) (i : ℕ) (d e : LogEntry) (p : Plan) → s.applied + 1 ≡ i → d ≡ e → IsPlan s (take_body (record s { applied = i }) i d.time d.body) p → IsPlan s (apply s e) p
 unfolding apply
-apply_at s i e p next h = subst (λ n. IsPlan s (take_body (record s { applied = n }) n e.time e.body) p) (sym next) h
+planned_entry s i d e p next same h =
+    subst (λ z. IsPlan s (apply s z) p) same (subst (λ n. IsPlan s (take_body (record s { applied = n }) n d.time d.body) p) (sym next) h)

@@ -1,5 +1,5 @@
 -- What is found to be done, and what it does to the parts of a state.
-use Rattle.std.specs.Prelude.{◌≡◌, ℕ, ℤ, Bool, false, ◌+◌, ◌-◌, ◌==◌, min, List, [], ◌∷◌, length, Option, Some, None, IsTrue, if◌then◌else◌}
+use Rattle.std.specs.Prelude.{◌≡◌, ℕ, Bool, false, ◌+◌, ◌==◌, min, List, [], ◌∷◌, length, Option, Some, None, IsTrue, if◌then◌else◌}
 use Rattle.std.specs.Str.{bytes_eq}
 use Rattle.std.specs.FinMap as map
 use Rattle.kp_model.specs.declared.node.Acl.{Acl}
@@ -23,6 +23,11 @@ use Rattle.kp_prep.specs.declared.plan.Plan.{Plan}
 -- a path that has a parent
 abbrev pub IsChildPath : List ℕ → Type 0
 IsChildPath path = IsTrue (is_well_formed path) × (bytes_eq path root ≡ false)
+
+-- such a path, whose parent is a path too
+pub record IsFamily (path : List ℕ) : Type 0 where
+  pub child : IsChildPath path
+  pub above : IsTrue (is_well_formed (parent path))
 
 -- a node may be made at the path, whose parent shows these numbers
 pub record MayCreate (nodes : Nodes) (ids : List (List ℕ)) (path : List ℕ) (up : Meta) : Type 0 where
@@ -128,11 +133,29 @@ next_after n (Some m) = m
 abbrev pub planned : Parts → Plan → Parts
 planned p plan = effected (record p { sessions = renewed p.sessions plan.session; next = next_after p.next plan.next }) plan.effect
 
+-- the owner that a path has is this one, where it is one
+abbrev pub OwnerIs : map.FinMap path_cmp ℕ → ℕ → List ℕ → Type 0
+OwnerIs owners owner path = (owner == 0) ≡ false → map.get owners path ≡ Some owner
+
+-- an effect tells the owner of a node that is removed
+abbrev pub TellsOwner : Parts → Effect → Type 0
+TellsOwner p effect.Nothing = Unit {0}
+TellsOwner p (effect.Make path bytes acl meta up) = Unit {0}
+TellsOwner p (effect.Remove path up owner) = OwnerIs p.owners owner path
+TellsOwner p (effect.Set path bytes meta) = Unit {0}
+
+-- the paths of an effect are those of nodes
+abbrev pub IsFit : Effect → Type 0
+IsFit effect.Nothing = Unit {0}
+IsFit (effect.Make path bytes acl meta up) = IsFamily path
+IsFit (effect.Remove path up owner) = IsFamily path
+IsFit (effect.Set path bytes meta) = IsTrue (is_well_formed path)
+
 -- the effect is one on the node at this path
 abbrev pub IsOn : List ℕ → Effect → Type 0
 IsOn q effect.Nothing = Unit {0}
-IsOn q (effect.Make path bytes acl meta up) = (path ≡ q) × IsChildPath path
-IsOn q (effect.Remove path up owner) = (path ≡ q) × IsChildPath path
+IsOn q (effect.Make path bytes acl meta up) = (path ≡ q) × IsFamily path
+IsOn q (effect.Remove path up owner) = (path ≡ q) × IsFamily path
 IsOn q (effect.Set path bytes meta) = (path ≡ q) × IsTrue (is_well_formed path)
 
 -- the path that a command names
@@ -153,6 +176,7 @@ pub record IsAct (path : List ℕ) (s : State) (o : Outcome) (a : Act) : Type 0 
   pub events : a.prepared.events ≡ o.events
   pub parts : effected (parts_of s) a.effect ≡ parts_of o.state
   pub on : IsOn path a.effect
+  pub owner : TellsOwner (parts_of s) a.effect
 
 -- an answer, and nothing that is done
 abbrev pub answer_plan : Reply → Plan
@@ -171,3 +195,5 @@ pub record IsPlan (s : State) (o : Outcome) (p : Plan) : Type 0 where
   pub reply : p.prepared.reply ≡ o.reply
   pub events : p.prepared.events ≡ o.events
   pub parts : planned (parts_of s) p ≡ parts_of o.state
+  pub owner : TellsOwner (parts_of s) p.effect
+  pub fit : IsFit p.effect

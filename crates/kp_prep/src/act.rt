@@ -11,7 +11,7 @@ ghost use Rattle.kp_model.specs.Step as step;
 ghost use Rattle.kp_model.specs.declared.reply.Reply.TheVariants as reply;
 ghost use Rattle.kp_prep.specs.Effects.{IsAct, IsChildPath, with_child_shown, answered_act, made_act, gone_act, set_act, path_of};
 
-use crate::checks::{find, may_create, may_remove, READ, WRITE};
+use crate::checks::{READ, WRITE, find, may_create, may_remove};
 use crate::plan::{Act, Effect, Found, Prepared, Stamp};
 use kp_model::{Acls, Bytes, Cmd, Event, Events, Meta, NoMemory, Paths, Reply, Text, View};
 use std::alloc::Global;
@@ -21,15 +21,31 @@ const MOST_KIDS: u32 = 2147483647;
 
 /// What a command of a session with these ids does, at an index and a time.
 #[tactic(auto, unfolding(kp_model::specs::Step::act))]
-pub(crate) fn act<V: View>(alloc: Global, view: &V, ids: &Paths, stamp: Stamp, cmd: &Cmd) -> Result<Act, NoMemory>
+pub(crate) fn act<V: View>(
+    alloc: Global,
+    view: &V,
+    ids: &Paths,
+    stamp: Stamp,
+    cmd: &Cmd,
+) -> Result<Act, NoMemory>
     requires sound { IsSound (V.state view.now) }
     requires fits { IsTrue (fits_cmd cmd.now) }
     ensures { IfOk result (IsAct (path_of cmd.now) (V.state view.now) (step.act (V.state view.now) ids.now stamp.index stamp.time cmd.now)) }
 {
     match cmd {
-        Cmd::Create { path, bytes, acl, stat, .. } => create(alloc, view, ids, stamp, path, bytes, acl, *stat),
+        Cmd::Create {
+            path,
+            bytes,
+            acl,
+            stat,
+            ..
+        } => create(alloc, view, ids, stamp, path, bytes, acl, *stat),
         Cmd::Delete { path, version } => delete(alloc, view, ids, stamp, path, *version),
-        Cmd::SetData { path, bytes, version } => set_data(alloc, view, ids, stamp, path, bytes, *version),
+        Cmd::SetData {
+            path,
+            bytes,
+            version,
+        } => set_data(alloc, view, ids, stamp, path, bytes, *version),
         Cmd::Check { path, version } => Ok(check(alloc, view, ids, path, *version)),
         _ => Ok(answered(alloc, Reply::Stale)),
     }
@@ -49,7 +65,16 @@ fn answered(alloc: Global, reply: Reply) -> Act
 }
 
 // What a creation does.
-fn create<V: View>(alloc: Global, view: &V, ids: &Paths, stamp: Stamp, path: &Text, bytes: &Bytes, acl: &Acls, stat: bool) -> Result<Act, NoMemory>
+fn create<V: View>(
+    alloc: Global,
+    view: &V,
+    ids: &Paths,
+    stamp: Stamp,
+    path: &Text,
+    bytes: &Bytes,
+    acl: &Acls,
+    stat: bool,
+) -> Result<Act, NoMemory>
     requires sound { IsSound (V.state view.now) }
     requires fits { IsTrue (is_length (length bytes.now)) }
     ensures { let s = V.state view.now in IfOk result (IsAct path.now s (unless (create_fails s.nodes ids.now path.now) s (created s stamp.index stamp.time path.now bytes.now acl.now stat))) }
@@ -61,7 +86,15 @@ fn create<V: View>(alloc: Global, view: &V, ids: &Paths, stamp: Stamp, path: &Te
 }
 
 // A node is made under a parent that showed these numbers.
-fn made(alloc: Global, stamp: Stamp, path: &Text, bytes: &Bytes, acl: &Acls, stat: bool, up: Meta) -> Result<Act, NoMemory>
+fn made(
+    alloc: Global,
+    stamp: Stamp,
+    path: &Text,
+    bytes: &Bytes,
+    acl: &Acls,
+    stat: bool,
+    up: Meta,
+) -> Result<Act, NoMemory>
     requires child { IsChildPath path.now }
     requires fits { IsTrue (is_length (length bytes.now)) }
     ensures { IfOk result (λ a. a ≡ made_act stamp.index stamp.time path.now bytes.now acl.now stat up) }
@@ -72,7 +105,11 @@ fn made(alloc: Global, stamp: Stamp, path: &Text, bytes: &Bytes, acl: &Acls, sta
     } else {
         Reply::Path(path.copy(alloc)?)
     };
-    let events = two_events(alloc, Event::Created(path.copy(alloc)?), Event::ChildrenChanged(parent_of(alloc, path.as_str())?))?;
+    let events = two_events(
+        alloc,
+        Event::Created(path.copy(alloc)?),
+        Event::ChildrenChanged(parent_of(alloc, path.as_str())?),
+    )?;
     let effect = Effect::Make {
         path: path.copy(alloc)?,
         bytes: bytes.copy(alloc)?,
@@ -145,7 +182,14 @@ fn parent_of(alloc: Global, path: &str) -> Result<Text, NoMemory>
 }
 
 // What a removal does.
-fn delete<V: View>(alloc: Global, view: &V, ids: &Paths, stamp: Stamp, path: &Text, version: u32) -> Result<Act, NoMemory>
+fn delete<V: View>(
+    alloc: Global,
+    view: &V,
+    ids: &Paths,
+    stamp: Stamp,
+    path: &Text,
+    version: u32,
+) -> Result<Act, NoMemory>
     requires sound { IsSound (V.state view.now) }
     ensures { let s = V.state view.now in IfOk result (IsAct path.now s (unless (delete_fails s.nodes ids.now path.now version) s (deleted s stamp.index path.now))) }
 {
@@ -156,7 +200,14 @@ fn delete<V: View>(alloc: Global, view: &V, ids: &Paths, stamp: Stamp, path: &Te
 }
 
 // A node is removed that shows these numbers, and its parent those.
-fn remove<V: View>(alloc: Global, view: &V, stamp: Stamp, path: &Text, found: Found) -> Result<Act, NoMemory>
+fn remove<V: View>(
+    alloc: Global,
+    view: &V,
+    stamp: Stamp,
+    path: &Text,
+    found: Found,
+) -> Result<Act, NoMemory>
+    requires sound { IsSound (V.state view.now) }
     requires up { meta_at (V.state view.now).nodes (parent path.now) ≡ Some found.up }
     requires there { meta_at (V.state view.now).nodes path.now ≡ Some found.meta }
     requires child { IsChildPath path.now }
@@ -189,7 +240,11 @@ fn gone(alloc: Global, index: u64, path: &Text, found: Found, kids: u32) -> Resu
     requires { IsChildPath path.now }
     ensures { IfOk result (λ a. a ≡ gone_act index path.now found kids) }
 {
-    let events = two_events(alloc, Event::Deleted(path.copy(alloc)?), Event::ChildrenChanged(parent_of(alloc, path.as_str())?))?;
+    let events = two_events(
+        alloc,
+        Event::Deleted(path.copy(alloc)?),
+        Event::ChildrenChanged(parent_of(alloc, path.as_str())?),
+    )?;
     let effect = Effect::Remove {
         path: path.copy(alloc)?,
         up: Meta {
@@ -210,7 +265,15 @@ fn gone(alloc: Global, index: u64, path: &Text, found: Found, kids: u32) -> Resu
 }
 
 // What setting data does.
-fn set_data<V: View>(alloc: Global, view: &V, ids: &Paths, stamp: Stamp, path: &Text, bytes: &Bytes, version: u32) -> Result<Act, NoMemory>
+fn set_data<V: View>(
+    alloc: Global,
+    view: &V,
+    ids: &Paths,
+    stamp: Stamp,
+    path: &Text,
+    bytes: &Bytes,
+    version: u32,
+) -> Result<Act, NoMemory>
     requires fits { IsTrue (is_length (length bytes.now)) }
     ensures { let s = V.state view.now in IfOk result (IsAct path.now s (unless (version_fails s.nodes ids.now right.write path.now version) s (set s stamp.index stamp.time path.now bytes.now))) }
 {
@@ -221,7 +284,13 @@ fn set_data<V: View>(alloc: Global, view: &V, ids: &Paths, stamp: Stamp, path: &
 }
 
 // The data of a node is set, which showed these numbers.
-fn changed(alloc: Global, stamp: Stamp, path: &Text, bytes: &Bytes, meta: Meta) -> Result<Act, NoMemory>
+fn changed(
+    alloc: Global,
+    stamp: Stamp,
+    path: &Text,
+    bytes: &Bytes,
+    meta: Meta,
+) -> Result<Act, NoMemory>
     requires fits { IsTrue (is_length (length bytes.now)) }
     ensures { IfOk result (λ a. a ≡ set_act stamp.index stamp.time path.now bytes.now meta) }
 {

@@ -12,14 +12,17 @@ ghost use Rattle.kp_prep.specs.Looks.{has_right, room_fails, leave_fails, change
 use crate::plan::Found;
 use kp_acl::allows;
 use kp_model::errors::{
-    BAD_ARGUMENTS, BAD_VERSION, NODE_EXISTS, NOT_EMPTY, NO_AUTH, NO_CHILDREN_FOR_EPHEMERALS,
-    NO_NODE,
+    BAD_ARGUMENTS, BAD_VERSION, NO_AUTH, NO_CHILDREN_FOR_EPHEMERALS, NO_NODE, NODE_EXISTS,
+    NOT_EMPTY,
 };
 use kp_model::{Meta, Paths, View};
 
 pub(crate) const READ: u32 = 1;
+
 pub(crate) const WRITE: u32 = 2;
+
 const CREATE: u32 = 4;
+
 const DELETE: u32 = 8;
 
 /// The version of a command that matches every version: -1 in two's complement.
@@ -73,7 +76,11 @@ fn may_create_under<V: View>(view: &V, ids: &Paths, up: &str, path: &str) -> Res
 {
     match view.meta(up) {
         None => Err(NO_NODE),
-        Some(meta) => match room_error(gives(view, ids, up, CREATE), meta.owner, is_there(view, path)) {
+        Some(meta) => match room_error(
+            gives(view, ids, up, CREATE),
+            meta.owner,
+            is_there(view, path),
+        ) {
             Some(code) => Err(code),
             None => Ok(*meta),
         },
@@ -96,7 +103,12 @@ fn room_error(allowed: bool, owner: u64, taken: bool) -> Option<i32>
 }
 
 /// The numbers of a node and its parent where the node may be removed, or else the error of the first check that fails.
-pub(crate) fn may_remove<V: View>(view: &V, ids: &Paths, path: &str, version: u32) -> Result<Found, i32>
+pub(crate) fn may_remove<V: View>(
+    view: &V,
+    ids: &Paths,
+    path: &str,
+    version: u32,
+) -> Result<Found, i32>
     ensures { let nodes = (V.state view.now).nodes in MatchResult result (MayRemove nodes ids.now path.now version) (λ e. delete_fails nodes ids.now path.now version ≡ Some e) }
 {
     match kp_path::check(path) {
@@ -109,7 +121,13 @@ pub(crate) fn may_remove<V: View>(view: &V, ids: &Paths, path: &str, version: u3
 }
 
 // The same below a parent.
-fn may_remove_under<V: View>(view: &V, ids: &Paths, up: &str, path: &str, version: u32) -> Result<Found, i32>
+fn may_remove_under<V: View>(
+    view: &V,
+    ids: &Paths,
+    up: &str,
+    path: &str,
+    version: u32,
+) -> Result<Found, i32>
     requires parent { up.now ≡ parent path.now }
     requires child { IsChildPath path.now }
     ensures { let nodes = (V.state view.now).nodes in MatchResult result (MayRemove nodes ids.now path.now version) (λ e. delete_fails nodes ids.now path.now version ≡ Some e) }
@@ -118,7 +136,12 @@ fn may_remove_under<V: View>(view: &V, ids: &Paths, up: &str, path: &str, versio
         None => Err(NO_NODE),
         Some(meta) => match view.meta(up) {
             None => Err(NO_AUTH),
-            Some(above) => match leave_error(gives(view, ids, up, DELETE), version, meta.version, meta.kids) {
+            Some(above) => match leave_error(
+                gives(view, ids, up, DELETE),
+                version,
+                meta.version,
+                meta.kids,
+            ) {
                 Some(code) => Err(code),
                 None => Ok(Found {
                     up: *above,
@@ -145,7 +168,13 @@ fn leave_error(allowed: bool, asked: u32, version: u32, kids: u32) -> Option<i32
 }
 
 /// The numbers of a node that has the version and gives the right that are asked for, or else the error of the first check that fails.
-pub(crate) fn find<V: View>(view: &V, ids: &Paths, perm: u32, path: &str, version: u32) -> Result<Meta, i32>
+pub(crate) fn find<V: View>(
+    view: &V,
+    ids: &Paths,
+    perm: u32,
+    path: &str,
+    version: u32,
+) -> Result<Meta, i32>
     ensures { let nodes = (V.state view.now).nodes in MatchResult result (IsFound nodes ids.now perm path.now version) (λ e. version_fails nodes ids.now perm path.now version ≡ Some e) }
 {
     match kp_path::check(path) {
@@ -155,7 +184,13 @@ pub(crate) fn find<V: View>(view: &V, ids: &Paths, perm: u32, path: &str, versio
 }
 
 // The same at a path that is well formed.
-fn find_there<V: View>(view: &V, ids: &Paths, perm: u32, path: &str, version: u32) -> Result<Meta, i32>
+fn find_there<V: View>(
+    view: &V,
+    ids: &Paths,
+    perm: u32,
+    path: &str,
+    version: u32,
+) -> Result<Meta, i32>
     requires { IsTrue (is_well_formed path.now) }
     ensures { let nodes = (V.state view.now).nodes in MatchResult result (IsFound nodes ids.now perm path.now version) (λ e. version_fails nodes ids.now perm path.now version ≡ Some e) }
 {

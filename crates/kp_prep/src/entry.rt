@@ -19,7 +19,12 @@ use std::alloc::Global;
 const LAST_SESSION: u64 = 4611686018427387904;
 
 /// What an entry of this index does, on a state whose applied index is the one before.
-pub(crate) fn plan<V: View>(alloc: Global, view: &V, index: u64, entry: &Entry) -> Result<Plan, NoMemory>
+pub(crate) fn plan<V: View>(
+    alloc: Global,
+    view: &V,
+    index: u64,
+    entry: &Entry,
+) -> Result<Plan, NoMemory>
     requires sound { IsSound (V.state view.now) }
     requires next { (V.state view.now).applied + 1 ≡ index }
     ensures { IfOk result (IsPlan (V.state view.now) (apply (V.state view.now) entry.now)) }
@@ -30,9 +35,19 @@ pub(crate) fn plan<V: View>(alloc: Global, view: &V, index: u64, entry: &Entry) 
     };
     match &entry.body {
         Body::Noop => Ok(answer(alloc, Reply::Done)),
-        Body::OpenSession { timeout, passwd, origin } => Ok(open(alloc, view, *timeout, *passwd, *origin)),
-        Body::Write { session, epoch, seq, cmd } => write(alloc, view, stamp, *session, *epoch, *seq, cmd),
-        _ => Ok(answer(alloc, Reply::Stale)),
+        Body::OpenSession {
+            timeout,
+            passwd,
+            origin,
+        } => Ok(open(alloc, view, *timeout, *passwd, *origin)),
+        Body::Write {
+            session,
+            epoch,
+            seq,
+            cmd,
+        } => write(alloc, view, stamp, *session, *epoch, *seq, cmd),
+        Body::Attach { .. } => Ok(answer(alloc, Reply::Stale)),
+        Body::Expire { .. } => Ok(answer(alloc, Reply::Stale)),
     }
 }
 
@@ -97,7 +112,15 @@ fn opening(alloc: Global, id: u64, timeout: u32, passwd: [u8; 16], origin: Origi
 }
 
 // What a write of a session does.
-fn write<V: View>(alloc: Global, view: &V, stamp: Stamp, id: u64, epoch: u64, seq: u64, cmd: &Cmd) -> Result<Plan, NoMemory>
+fn write<V: View>(
+    alloc: Global,
+    view: &V,
+    stamp: Stamp,
+    id: u64,
+    epoch: u64,
+    seq: u64,
+    cmd: &Cmd,
+) -> Result<Plan, NoMemory>
     requires sound { IsSound (V.state view.now) }
     requires fits { IsTrue (fits_cmd cmd.now) }
     ensures { let s = V.state view.now in IfOk result (IsPlan s (written_by (map.get s.sessions id) (record s { applied = stamp.index }) stamp.index stamp.time id epoch seq cmd.now)) }
@@ -109,7 +132,16 @@ fn write<V: View>(alloc: Global, view: &V, stamp: Stamp, id: u64, epoch: u64, se
 }
 
 // What a write of this session does.
-fn write_of<V: View>(alloc: Global, view: &V, stamp: Stamp, id: u64, session: &Session, epoch: u64, seq: u64, cmd: &Cmd) -> Result<Plan, NoMemory>
+fn write_of<V: View>(
+    alloc: Global,
+    view: &V,
+    stamp: Stamp,
+    id: u64,
+    session: &Session,
+    epoch: u64,
+    seq: u64,
+    cmd: &Cmd,
+) -> Result<Plan, NoMemory>
     requires sound { IsSound (V.state view.now) }
     requires fits { IsTrue (fits_cmd cmd.now) }
     ensures { let s = V.state view.now in IfOk result (IsPlan s (written_by (Some session.now) (record s { applied = stamp.index }) stamp.index stamp.time id epoch seq cmd.now)) }
@@ -137,7 +169,15 @@ fn follows(last: u64, seq: u64) -> bool
 }
 
 // The session has the number, and its command acts.
-fn acted<V: View>(alloc: Global, view: &V, stamp: Stamp, id: u64, session: &Session, seq: u64, cmd: &Cmd) -> Result<Plan, NoMemory>
+fn acted<V: View>(
+    alloc: Global,
+    view: &V,
+    stamp: Stamp,
+    id: u64,
+    session: &Session,
+    seq: u64,
+    cmd: &Cmd,
+) -> Result<Plan, NoMemory>
     requires sound { IsSound (V.state view.now) }
     requires fits { IsTrue (fits_cmd cmd.now) }
     ensures { let s = V.state view.now in IfOk result (IsPlan s (step.act (record s { applied = stamp.index; sessions = map.insert s.sessions id (with_seq seq session.now) }) session.now.ids stamp.index stamp.time cmd.now)) }

@@ -5,5 +5,6 @@ mod act;
 mod checks;
 mod entry;
 mod plan;
+mod stage;
 
 pub use plan::{Act, Effect, Found, Plan, Prepared, Stamp};

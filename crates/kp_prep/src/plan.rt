@@ -22,7 +22,11 @@ pub enum Effect {
         up: Meta,
     },
     /// A node is removed. `up` are its parent's numbers then, and `owner` its session, or 0.
-    Remove { path: Text, up: Meta, owner: u64 },
+    Remove {
+        path: Text,
+        up: Meta,
+        owner: u64,
+    },
     /// The data of a node is set. `meta` are its numbers then.
     Set {
         path: Text,

@@ -1,8 +1,6 @@
-use Rattle.std.proofs.Common.{◌≡◌, ℕ, ◌-◌, List, Option, Some, None, length, min, refl, ap, sym, subst, ◌∙◌}
-use Rattle.kp_model.specs.Path.{parent}
-use Rattle.kp_model.specs.State.{children}
-use Rattle.kp_model.specs.Step.{deleted, delete_fails}
-use Rattle.kp_prep.specs.Effects.{MayCreate, MayRemove, IsFound, IsAct}
+use Rattle.std.proofs.Common.{subst}
+use Rattle.kp_model.specs.Step.{deleted}
+use Rattle.kp_prep.specs.Effects.{MayRemove}
 use Rattle.kp_prep.proofs.Acts.{if_ok_then, unless_none}
 use Rattle.kp_prep.proofs.act.delete.Goals as goal
 

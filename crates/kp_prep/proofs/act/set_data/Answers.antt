@@ -1,8 +1,5 @@
-use Rattle.std.proofs.Common.{◌≡◌, ℕ, ◌-◌, List, Option, Some, None, length, min, refl, ap, sym, subst, ◌∙◌}
-use Rattle.kp_model.specs.Path.{parent}
-use Rattle.kp_model.specs.State.{children}
-use Rattle.kp_model.specs.Step.{deleted, delete_fails}
-use Rattle.kp_prep.specs.Effects.{MayCreate, MayRemove, IsFound, IsAct}
+use Rattle.std.proofs.Common.{subst}
+use Rattle.kp_prep.specs.Effects.{IsFound}
 use Rattle.kp_prep.proofs.Acts.{if_ok, set_does}
 use Rattle.kp_prep.proofs.act.set_data.Goals as goal
 

@@ -1,9 +1,5 @@
-use Rattle.std.proofs.Common.{◌≡◌, ℕ, Bool, List, Option, Some, None, is_some, refl, ap, sym, subst, ◌∙◌}
+use Rattle.std.proofs.Common.{is_some, ap, sym, ◌∙◌}
 use Rattle.std.specs.Option.{option_copied}
-use Rattle.std.specs.FinMap as map
-use Rattle.kp_model.specs.Path.{parent}
-use Rattle.kp_model.specs.State.{meta_at}
-use Rattle.kp_prep.specs.Looks.{has_right, room_fails, leave_fails, change_fails}
 use Rattle.kp_prep.proofs.Seen.{meta_none, meta_some}
 use Rattle.kp_prep.proofs.checks.is_there.Goals as goal
 

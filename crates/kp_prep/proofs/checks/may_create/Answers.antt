@@ -1,9 +1,6 @@
-use Rattle.std.proofs.Common.{◌≡◌, ℕ, Bool, List, Option, Some, None, is_some, refl, ap, sym, subst, ◌∙◌}
+use Rattle.std.proofs.Common.{ap, sym, ◌∙◌}
 use Rattle.std.specs.Option.{option_copied}
-use Rattle.std.specs.FinMap as map
 use Rattle.kp_model.specs.Path.{parent}
-use Rattle.kp_model.specs.State.{meta_at}
-use Rattle.kp_prep.specs.Looks.{has_right, room_fails, leave_fails, change_fails}
 use Rattle.kp_prep.proofs.Seen.{is_root, create_malformed, create_root}
 use Rattle.kp_prep.proofs.checks.may_create.Goals as goal
 

@@ -1,10 +1,8 @@
 use Rattle.std.proofs.lemmas.Grind.{common_steps}
-use Rattle.std.proofs.Common.{rules, arith, ◌≡◌, ℕ, Bool, List, Option, Some, None, is_some, refl, ap, sym, subst, ◌∙◌}
+use Rattle.std.proofs.Common.{rules, arith, ap, sym, ◌∙◌}
 use Rattle.std.specs.Option.{option_copied}
-use Rattle.std.specs.FinMap as map
-use Rattle.kp_model.specs.Path.{parent}
 use Rattle.kp_model.specs.State.{meta_at}
-use Rattle.kp_prep.specs.Looks.{has_right, room_fails, leave_fails, change_fails}
+use Rattle.kp_prep.specs.Looks.{has_right, leave_fails}
 use Rattle.kp_prep.proofs.Seen.{meta_none, delete_none, delete_there}
 use Rattle.kp_prep.proofs.checks.may_remove_under.Goals as goal
 
@@ -19,10 +17,10 @@ returns-in-None-meta g c =
 pub returns-in-Some-leave_error : goal.returns-in-Some-leave_error
 returns-in-Some-leave_error g c =
     let e =
-      delete_there (g.V.View.state c.args.view.now).nodes c.args.ids.now c.args.path.now c.args.version c.args.up.now c.in-Some.meta.now c.requires.parent c.requires.child (sym (ap option_copied c.in-Some.is) ∙ c.meta.ensures)
-      ∙ sym (ap (λ b. leave_fails b c.args.version c.in-Some.meta.now.version c.in-Some.meta.now.kids) c.gives.ensures)
-      ∙ sym c.leave_error.ensures
-      ∙ c.in-Some-leave_error.is in
+    delete_there (g.V.View.state c.args.view.now).nodes c.args.ids.now c.args.path.now c.args.version c.args.up.now c.in-Some.meta.now c.requires.parent c.requires.child (sym (ap option_copied c.in-Some.is) ∙ c.meta.ensures)
+    ∙ sym (ap (λ b. leave_fails b c.args.version c.in-Some.meta.now.version c.in-Some.meta.now.kids) c.gives.ensures)
+    ∙ sym c.leave_error.ensures
+    ∙ c.in-Some-leave_error.is in
     first_of (search (rules, e), grind (arith, common_steps, e))
 
 pub returns-in-None-leave_error : goal.returns-in-None-leave_error

@@ -1,7 +1,5 @@
-use Rattle.std.proofs.Common.{◌≡◌, ℕ, Option, Some, None, refl, ap, sym, subst, ◌∙◌}
-use Rattle.std.specs.Option.{option_copied}
-use Rattle.kp_model.specs.Step.{with_seq, new_session}
-use Rattle.kp_prep.specs.Effects.{IsPlan, path_of, opening_plan}
+use Rattle.kp_model.specs.Step.{with_seq}
+use Rattle.kp_prep.specs.Effects.{path_of}
 use Rattle.kp_prep.proofs.Acts.{if_ok}
 use Rattle.kp_prep.proofs.Plans.{acted_is}
 use Rattle.kp_prep.proofs.entry.acted.Goals as goal

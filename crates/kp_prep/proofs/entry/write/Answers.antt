@@ -1,7 +1,6 @@
-use Rattle.std.proofs.Common.{◌≡◌, ℕ, Option, Some, None, refl, ap, sym, subst, ◌∙◌}
+use Rattle.std.proofs.Common.{ap, sym, subst, ◌∙◌}
 use Rattle.std.specs.Option.{option_copied}
-use Rattle.kp_model.specs.Step.{with_seq, new_session}
-use Rattle.kp_prep.specs.Effects.{IsPlan, path_of, opening_plan}
+use Rattle.kp_prep.specs.Effects.{IsPlan}
 use Rattle.kp_prep.proofs.Plans.{written_dead}
 use Rattle.kp_prep.proofs.entry.write.Goals as goal
 

@@ -21,7 +21,11 @@ fn a_line_gives_rights_to_everyone_or_to_an_id(rt: HostRuntime) {
     let own = line(alloc, 1, "digest", "u:x").expect(&rt, "memory");
     let address = line(alloc, 31, "ip", "u:x").expect(&rt, "memory");
     let none: Paths = Items::new(alloc);
-    let ids: Paths = Items::from_vec(vec![in alloc; text(alloc, "v:y").expect(&rt, "memory"), text(alloc, "u:x").expect(&rt, "memory")].expect(&rt, "memory"));
+    let ids: Paths = Items::from_vec(vec![in alloc;
+        text(alloc, "v:y").expect(&rt, "memory"),
+        text(alloc, "u:x").expect(&rt, "memory"),
+    ]
+    .expect(&rt, "memory"));
     let all: Acls = Items::from_vec(vec![in alloc; address, own].expect(&rt, "memory"));
     let world: Acls = Items::from_vec(vec![in alloc; open].expect(&rt, "memory"));
     assert!(rt; allows(&none, world.as_slice(), 16));

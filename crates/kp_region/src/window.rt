@@ -119,9 +119,15 @@ fn take_away(buffer: &mut Vec<u8>, dead: usize)
     ensures len { vec_len buffer.new ≡ vec_len buffer.old - dead }
     ensures capacity { vec_capacity buffer.new ≡ vec_capacity buffer.old }
 {
-    let len = buffer.len();
-    buffer.copy_within(dead.., 0);
-    buffer.truncate(len - dead);
+    let live = buffer.len() - dead;
+    if live <= dead {
+        // Nothing overlaps, so the bytes move in one copy.
+        let (front, back) = buffer.split_at_mut(dead);
+        front[..live].copy_from_slice(back);
+    } else {
+        buffer.copy_within(dead.., 0);
+    }
+    buffer.truncate(live);
 }
 
 // Makes room for `extra` more bytes. The capacity never passes twice the bytes that are then needed,

@@ -1,4 +1,0 @@
-pub mod Maps
-pub mod Named
-pub mod ByPath
-pub mod Together

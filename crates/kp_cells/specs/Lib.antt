@@ -1,5 +1,0 @@
-pub mod Mapped
-pub mod Parts
-pub mod Overlays
-pub mod Naming
-pub mod Held

@@ -1,8 +1,0 @@
-pub mod Paths
-pub mod Kids
-pub mod Owners
-pub mod Outcomes
-pub mod Seen
-pub mod Acts
-pub mod Plans
-pub mod Carried

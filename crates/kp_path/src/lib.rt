@@ -27,7 +27,6 @@ pub fn check(path: &str) -> Result<(), BadPath>
 /// The path of the parent: what stands before the last `/`, or `/` where that is nothing. The root has none.
 #[tactic(auto, unfolding(kp_model::specs::Path::parent))]
 pub fn parent(path: &str) -> Option<&str>
-    requires { IsTrue (is_well_formed path.now) }
     ensures { option_copied result ≡ (if bytes_eq path.now paths.root then None else Some (paths.parent path.now)) }
 {
     if path == "/" {
@@ -40,7 +39,6 @@ pub fn parent(path: &str) -> Option<&str>
 /// The name of a node under its parent: what stands behind the last `/`.
 #[tactic(auto, unfolding(kp_model::specs::Path::name))]
 pub fn name(path: &str) -> &str
-    requires { IsTrue (is_well_formed path.now) }
     ensures { result.now ≡ paths.name path.now }
 {
     behind(path, last_slash(path.as_bytes()))

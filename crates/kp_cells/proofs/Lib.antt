@@ -1,0 +1,10 @@
+pub mod Maps
+pub mod Named
+pub mod ByPath
+pub mod Together
+pub mod Listed
+pub mod Shown
+pub mod Walked
+pub mod Counted
+pub mod Gathered
+mod Anyone

@@ -1,0 +1,11 @@
+use Rattle.std.proofs.Common.{ap, ◌∙◌}
+use Rattle.kp_model.specs.State.{State, owned}
+use Rattle.kp_cells.proofs.Anyone.{if_ok}
+use Rattle.kp_cells.proofs.Shown.{latest_owned}
+use Rattle.kp_cells.proofs.view.LatestViewView.owned.Goals as goal
+
+pub returns : goal.returns
+returns c =
+    if_ok _ _ c.list.result
+    (λ paths same. same ∙ latest_owned c.self.inside.cells.now c.args.session ∙ ap (λ (s : State). owned s.nodes c.args.session) c.self.view_is)
+    c.list.ensures

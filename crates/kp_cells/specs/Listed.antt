@@ -1,0 +1,66 @@
+-- Which paths a listing takes, and lists of keys in their order.
+use Rattle.std.specs.Prelude.{◌≡◌, ℕ, Bool, false, cond, List, [], ◌∷◌, ◌++◌, is_some, zero, suc, Option, Some, None}
+use Rattle.std.specs.List.{list_any}
+use Rattle.std.specs.List.Sorted.{IsStrictlySortedBy}
+use Rattle.std.specs.Option.{option_map_or, option_and_then}
+use Rattle.std.specs.Str.{bytes_eq}
+use Rattle.std.specs.Ordering.{nat_cmp, eq_by_cmp}
+use Rattle.std.specs.declared.cmp.Ordering.{Ordering}
+use Rattle.std.specs.FinMap as fin
+use Rattle.std.specs.FinMap.{FinMap}
+use Rattle.kp_layers.specs.Layering.{Layering, latest_of}
+use Rattle.kp_model.specs.declared.node.Meta.{Meta}
+use Rattle.kp_model.specs.declared.session.Session.{Session}
+use Rattle.kp_model.specs.declared.session.Origin.{Origin}
+use Rattle.kp_model.specs.State.{Sessions, path_cmp, same_origin}
+use Rattle.kp_cells.specs.Naming.{Naming}
+
+-- what a part has: under all layers, or below them
+abbrev pub side_of : {K : Type 0} {R : K → K → Ordering} {V : Type 0} → Bool → Layering R V → FinMap R V
+side_of latest l = cond latest (latest_of l) l.base
+
+-- which paths and nodes a listing takes
+abbrev pub Test : Type 0
+Test = List ℕ → Meta → Bool
+
+abbrev pub one_passing : Test → List ℕ → Option Meta → Option (List ℕ)
+one_passing f p None = None
+one_passing f p (Some m) = cond (f p m) (Some p) None
+
+abbrev pub passing_path : Test → Option Meta → Option (List ℕ) → Option (List ℕ)
+passing_path f r None = None
+passing_path f r (Some p) = one_passing f p r
+
+-- the path of a number, where there is a node that the test takes
+abbrev pub taken : Test → Naming → FinMap nat_cmp Meta → ℕ → Option (List ℕ)
+taken f names metas n = passing_path f (fin.get metas n) (fin.get names.texts n)
+
+-- whether the test takes the node of a path
+abbrev pub takes : Test → Naming → FinMap nat_cmp Meta → List ℕ → Bool
+takes f names metas q = option_map_or (f q) (option_and_then (fin.get metas) (fin.get names.numbers q)) false
+
+-- whether the test takes what the map has at a path
+abbrev pub passes : Test → FinMap path_cmp Meta → List ℕ → Bool
+passes f metas q = option_map_or (f q) (fin.get metas q) false
+
+-- whether q is the path that may be there
+abbrev pub is_the : List ℕ → Option (List ℕ) → Bool
+is_the q r = option_map_or (bytes_eq q) r false
+
+-- the keys stand in their order, and are those that pass the test
+pub record Lists {K : Type 0} (R : K → K → Ordering) (f : K → Bool) (keys : List K) : Type 0 where
+  pub sorted : IsStrictlySortedBy R keys
+  pub members : (q : K) → list_any (eq_by_cmp R q) keys ≡ f q
+
+-- the numbers below n, ascending
+abbrev pub below : ℕ → List ℕ
+below zero = []
+below (suc n) = below n ++ n ∷ []
+
+-- whether there is a session of this number
+abbrev pub is_there : Sessions → ℕ → Bool
+is_there sessions id = is_some (fin.get sessions id)
+
+-- whether there is one that is held by this origin
+abbrev pub is_held_at : Sessions → Origin → ℕ → Bool
+is_held_at sessions origin id = option_map_or (λ (x : Session). same_origin x.holder origin) (fin.get sessions id) false

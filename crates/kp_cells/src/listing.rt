@@ -1,0 +1,166 @@
+//! Lists of paths and of session numbers.
+ghost use Rattle.std.specs.Prelude.{◌≡◌, ℕ, List, cond, ◌||◌, ◌<◌, map, is_some, option_copied, IfOk, OnOk};
+ghost use Rattle.std.specs.BTreeSet.{contains};
+ghost use Rattle.std.specs.FinMap as fin;
+ghost use Rattle.std.specs.Str.{bytes_eq};
+ghost use Rattle.std.specs.List.{filter, list_any};
+ghost use Rattle.kp_model.specs.Path as paths;
+ghost use Rattle.kp_model.specs.State.{path_cmp};
+ghost use Rattle.kp_cells.specs.Listed.{side_of, taken as taken_of, takes, is_the, Lists, below, is_there, is_held_at};
+
+use crate::names::Names;
+use crate::pick::Pick;
+use kp_layers::Layers;
+use kp_model::{Meta, NoMemory, Origin, Paths, Session, Text};
+use std::alloc::Global;
+use std::collections::BTreeSet;
+
+/// What the layers have at the key: under all layers, or below them.
+pub fn look<V>(layers: &Layers<V>, latest: bool, key: u64) -> Option<&V>
+    ensures { option_copied result ≡ fin.get (side_of latest layers.now) key }
+{
+    if latest {
+        layers.latest(key)
+    } else {
+        layers.committed(key)
+    }
+}
+
+// The path of the number, where there is a node that is picked.
+fn taken<'a, P: Pick>(
+    names: &'a Names,
+    metas: &Layers<Meta>,
+    latest: bool,
+    pick: &P,
+    number: u64,
+) -> Option<&'a str>
+    ensures { option_copied result ≡ taken_of (P.test pick.now) names.now (side_of latest metas.now) number }
+{
+    let path = names.text(number)?;
+    let meta = look(metas, latest, number)?;
+    if pick.takes(path, meta) {
+        Some(path)
+    } else {
+        None
+    }
+}
+
+// Adds the path to the set.
+fn add(alloc: Global, path: &str, found: &mut BTreeSet<Text>) -> Result<(), NoMemory>
+    ensures { OnOk result ((q : List ℕ) → contains path_cmp found.new q ≡ (contains path_cmp found.old q || bytes_eq q path.now)) }
+{
+    let _ = found.insert(Text::from_str(alloc, path)?)?;
+    Ok(())
+}
+
+// Adds the path of the number, where there is a node that is picked.
+fn visit<P: Pick>(
+    alloc: Global,
+    names: &Names,
+    metas: &Layers<Meta>,
+    latest: bool,
+    pick: &P,
+    number: u64,
+    found: &mut BTreeSet<Text>,
+) -> Result<(), NoMemory>
+    ensures { OnOk result ((q : List ℕ) → contains path_cmp found.new q ≡ (contains path_cmp found.old q || is_the q (taken_of (P.test pick.now) names.now (side_of latest metas.now) number))) }
+{
+    match taken(names, metas, latest, pick, number) {
+        Some(path) => add(alloc, path, found),
+        None => Ok(()),
+    }
+}
+
+// The paths that are picked, in a set.
+fn gather<P: Pick>(
+    alloc: Global,
+    names: &Names,
+    metas: &Layers<Meta>,
+    latest: bool,
+    pick: &P,
+) -> Result<BTreeSet<Text>, NoMemory>
+    ensures { IfOk result (λ found. (q : List ℕ) → contains path_cmp found q ≡ takes (P.test pick.now) names.now (side_of latest metas.now) q) }
+{
+    let mut found = BTreeSet::new(alloc);
+    let bound = names.bound();
+    for number in 0..bound {
+        visit(alloc, names, metas, latest, pick, number, &mut found)?;
+    }
+    Ok(found)
+}
+
+// The paths of the set, ascending.
+fn in_order(alloc: Global, mut found: BTreeSet<Text>) -> Result<Paths, NoMemory>
+    ensures { IfOk result (Lists path_cmp (contains path_cmp found)) }
+{
+    let mut paths = Vec::with_capacity(alloc, found.len())?;
+    'drain: while let Some(path) = found.pop_first() {
+        paths.push(path)?;
+    }
+    Ok(Paths::from_vec(paths))
+}
+
+/// The paths that are picked, ascending. Walks all paths that are in use.
+pub fn list<P: Pick>(
+    alloc: Global,
+    names: &Names,
+    metas: &Layers<Meta>,
+    latest: bool,
+    pick: &P,
+) -> Result<Paths, NoMemory>
+    ensures { IfOk result (Lists path_cmp (takes (P.test pick.now) names.now (side_of latest metas.now))) }
+{
+    let found = gather(alloc, names, metas, latest, pick)?;
+    in_order(alloc, found)
+}
+
+/// The name of each path.
+pub fn names_of(alloc: Global, list: &Paths) -> Result<Paths, NoMemory>
+    ensures { IfOk result (λ names. names ≡ map paths.name list.now) }
+{
+    let mut names = Paths::new(alloc);
+    for path in list.as_slice() {
+        names.push(Text::from_str(alloc, kp_path::name(path.as_str()))?)?;
+    }
+    Ok(names)
+}
+
+/// The numbers below the bound of which there is a session, ascending.
+pub fn numbers(
+    alloc: Global,
+    sessions: &Layers<Session>,
+    latest: bool,
+    bound: u64,
+) -> Result<Vec<u64>, NoMemory>
+    ensures { IfOk result (λ ids. ids.items ≡ filter (is_there (side_of latest sessions.now)) (below bound)) }
+{
+    let mut ids = Vec::new(alloc);
+    for id in 0..bound {
+        if look(sessions, latest, id).is_some() {
+            ids.push(id)?;
+        }
+    }
+    Ok(ids)
+}
+
+// Whether the session of the number is held by this origin.
+fn is_holder(sessions: &Layers<Session>, latest: bool, id: u64, origin: &Origin) -> bool
+    ensures { result ≡ is_held_at (side_of latest sessions.now) origin.now id }
+{
+    match look(sessions, latest, id) {
+        Some(session) => session.holder == *origin,
+        None => false,
+    }
+}
+
+/// Whether a session below the bound is held by this origin.
+pub fn has_holder(sessions: &Layers<Session>, latest: bool, bound: u64, origin: &Origin) -> bool
+    ensures { result ≡ list_any (is_held_at (side_of latest sessions.now) origin.now) (below bound) }
+{
+    for id in 0..bound {
+        if is_holder(sessions, latest, id, origin) {
+            return true;
+        }
+    }
+    false
+}

@@ -1,0 +1,9 @@
+pub mod Paths
+pub mod Kids
+pub mod Owners
+pub mod Outcomes
+pub mod Seen
+pub mod Acts
+pub mod Plans
+pub mod Carried
+pub mod Numbered

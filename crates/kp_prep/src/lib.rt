@@ -1,0 +1,12 @@
+//! What an entry does, found on a view of the tree: its answer, its events and its changes.
+#![tactic(auto)]
+
+mod act;
+mod checks;
+mod entry;
+mod plan;
+mod preparing;
+mod stage;
+
+pub use plan::{Act, Effect, Found, Plan, Prepared, Stamp};
+pub use preparing::prepare;

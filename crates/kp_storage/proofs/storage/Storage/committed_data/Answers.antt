@@ -1,0 +1,15 @@
+use Rattle.std.proofs.Common.{ap, ◌∙◌}
+use Rattle.std.specs.FinMap as map
+use Rattle.kp_model.specs.State.{bytes_at}
+use Rattle.kp_model.specs.Store.{Store}
+use Rattle.kp_cells.specs.Parts.{Parts}
+use Rattle.kp_storage.proofs.Keeping.{committed_parts_are}
+use Rattle.kp_storage.proofs.Whole.{get-contents}
+use Rattle.kp_storage.proofs.storage.Storage.committed_data.Goals as goal
+
+pub returns : goal.returns
+returns c =
+    c.committed_content.ensures
+    ∙ ap (λ (p : Parts). map.get p.contents c.args.path.now) (committed_parts_are c.self.inside.cells c.self.inside.entries.items c.self.inside.answers.items c.self.invariant)
+    ∙ get-contents _ c.args.path.now
+    ∙ ap (λ (x : Store). bytes_at x.state.nodes c.args.path.now) c.self.view_is

@@ -1,0 +1,236 @@
+ghost use Rattle.std.specs.Prelude.{◌≡◌, ◌<◌, ◌≤◌, ◌^◌, ◌-◌, IsTrue, length, take, IfOk, OnOk, OnErr};
+ghost use Rattle.std.specs.Option.{option_copied};
+ghost use Rattle.std.specs.FinMap as map;
+ghost use Rattle.kp_model.specs.Good.{IsSound};
+ghost use Rattle.kp_model.specs.Grammar.{is_entry};
+ghost use Rattle.kp_model.specs.State.{meta_at, bytes_at};
+ghost use Rattle.kp_model.specs.Store.{latest as latest_of, last as last_of, empty, with_entry, kept as kept_of, truncated, commit_answer, commit_leaves};
+ghost use Rattle.kp_cells.specs.Parts.{parts_of};
+ghost use Rattle.kp_cells.specs.Overlays.{IsClosed, depth, committed_parts, latest_parts, committed_state, latest_state};
+ghost use Rattle.kp_storage.specs.Built.{is_built};
+
+use kp_cells::Cells;
+use kp_model::{Committed, Entry, Meta, NoMemory, Reply, Session};
+use kp_prep::{Prepared, prepare};
+use std::alloc::Global;
+use std::collections::VecDeque;
+use std::marker::Model;
+
+/// The committed state, and the entries that aren't applied yet. Each of these has left its changes in
+/// a layer over the committed state, so that the uncommitted state, which is the replay of the entries
+/// on the committed one, is looked up and not replayed.
+///
+/// No call but `new` and `preprocess` takes memory. Where `preprocess` finds none, it answers
+/// `NoMemory`, and the storage is as it was.
+#[derive(Drop)]
+pub struct Storage {
+    alloc: Global,
+    cells: Cells,
+    // the entries that aren't applied, each with its layer in `cells`
+    entries: VecDeque<Entry>,
+    // what each of them is answered
+    answers: VecDeque<Committed>,
+}
+
+impl Model for Storage {
+    ghost use Rattle.kp_model.specs.Store.{Store};
+    ghost use Rattle.kp_model.specs.Codes.{store_code};
+    ghost use Rattle.kp_storage.specs.Kept.{store, Keeps};
+
+    ghost Value = { Store };
+
+    ghost coded = { store_code };
+
+    ghost view = { λ x. store x.cells x.entries.items };
+
+    ghost invariant = { λ x. Keeps x.cells x.entries.items x.answers.items };
+}
+
+// A copy of an entry, which keeps its grammar.
+fn copied(alloc: Global, entry: &Entry) -> Result<Entry, NoMemory>
+    ensures same { IfOk result (λ made. made ≡ entry.now) }
+    ensures grammar { IsTrue (is_entry entry.now) }
+{
+    let _term = &entry.term;
+    entry.copy(alloc)
+}
+
+impl Storage {
+    /// The empty storage, which takes its memory from this allocator.
+    pub fn new(alloc: Global) -> Result<Storage, NoMemory>
+        ensures { IfOk result (λ x. x ≡ empty) }
+    {
+        Ok(Storage {
+            alloc,
+            cells: Cells::new(alloc)?,
+            entries: VecDeque::new(alloc),
+            answers: VecDeque::new(alloc),
+        })
+    }
+
+    /// The index of the last entry that is committed.
+    pub fn applied(&self) -> u64
+        ensures { result ≡ self.now.state.applied }
+    {
+        self.cells.applied()
+    }
+
+    /// The index of the last entry.
+    pub fn last(&self) -> u64
+        ensures index { result ≡ last_of self.now }
+        ensures limit { result ≤ 2 ^ 62 }
+    {
+        self.cells.applied() + self.entries.len() as u64
+    }
+
+    /// The committed state and the uncommitted one are sound. Does nothing.
+    pub fn stays_sound(&self)
+        ensures committed { IsSound self.now.state }
+        ensures latest { IsSound (latest_of self.now) }
+    {
+        let _cells = &self.cells;
+    }
+
+    /// Adds an entry behind the last one, as a copy, and works out its changes and its answer.
+    pub fn preprocess(&mut self, entry: &Entry) -> Result<(), NoMemory>
+        requires room { last_of self.old < 2 ^ 62 }
+        requires built { IsTrue (is_built entry.now.body) }
+        ensures ok { OnOk result (self.new ≡ with_entry self.old entry.now) }
+        ensures err { OnErr result (self.new ≡ self.old) }
+    {
+        let entry = copied(self.alloc, entry)?;
+        let index = self.last() + 1;
+        self.entries.reserve(1)?;
+        self.answers.reserve(1)?;
+        self.cells.begin()?;
+        match prepare(self.alloc, &mut self.cells, index, &entry) {
+            Err(error) => {
+                self.cells.abandon();
+                Err(error)
+            }
+            Ok(Prepared { reply, events }) => {
+                self.cells.seal();
+                self.entries.push_back_reserved(entry);
+                self.answers.push_back_reserved(Committed {
+                    index,
+                    reply,
+                    events,
+                });
+                Ok(())
+            }
+        }
+    }
+
+    /// Makes the changes of the first unapplied entry part of the committed state, and answers its
+    /// index, its reply and its events. None exactly where there is no such entry. Takes no memory.
+    pub fn commit(&mut self) -> Option<Committed>
+        ensures answer { result ≡ commit_answer self.old.state self.old.unapplied }
+        ensures state { self.new ≡ commit_leaves self.old.state self.old.unapplied }
+    {
+        if self.entries.is_empty() {
+            return None;
+        }
+        let _ = self.cells.commit_front();
+        let _ = self.entries.pop_front();
+        self.answers.pop_front()
+    }
+
+    /// Lends what `commit` would answer.
+    pub fn upcoming(&self) -> Option<&Committed>
+        ensures { option_copied result ≡ commit_answer self.now.state self.now.unapplied }
+    {
+        self.answers.front()
+    }
+
+    // Forgets the last entry, where there is one.
+    fn forget_last(&mut self)
+        ensures { self.new ≡ record self.old { unapplied = take (length self.old.unapplied - 1) self.old.unapplied } }
+    {
+        let _ = self.cells.drop_back();
+        let _ = self.entries.pop_back();
+        let _ = self.answers.pop_back();
+    }
+
+    /// Forgets the entries behind this index, which is between `applied` and `last`, and their changes.
+    /// Takes no memory.
+    pub fn truncate(&mut self, last: u64)
+        requires from { self.old.state.applied ≤ last }
+        requires to { last ≤ last_of self.old }
+        ensures { self.new ≡ truncated self.old last }
+    {
+        let surplus = self.last() - last;
+        for _ in 0..surplus {
+            self.forget_last();
+        }
+    }
+
+    /// What the unapplied entry of this index was answered when it was added; None exactly where there
+    /// is no such entry.
+    pub fn kept(&self, index: u64) -> Option<&Reply>
+        ensures { option_copied result ≡ kept_of self.now index }
+    {
+        let applied = self.applied();
+        if index <= applied {
+            return None;
+        }
+        let place = index - applied - 1;
+        if place >= self.answers.len() as u64 {
+            return None;
+        }
+        Some(&self.answers[place as usize].reply)
+    }
+
+    /// The numbers of a node of the uncommitted state; None exactly where there is none.
+    pub fn latest_meta(&self, path: &str) -> Option<&Meta>
+        ensures { option_copied result ≡ meta_at (latest_of self.now).nodes path.now }
+    {
+        self.cells.latest_meta(path)
+    }
+
+    /// The data of a node of the uncommitted state; None exactly where there is none.
+    pub fn latest_data(&self, path: &str) -> Option<&[u8]>
+        ensures { option_copied result ≡ bytes_at (latest_of self.now).nodes path.now }
+    {
+        self.cells.latest_content(path)
+    }
+
+    /// A session of the uncommitted state; None exactly where there is none of this number.
+    pub fn latest_session(&self, id: u64) -> Option<&Session>
+        ensures { option_copied result ≡ map.get (latest_of self.now).sessions id }
+    {
+        self.cells.latest_session(id)
+    }
+
+    /// The numbers of a node of the committed state; None exactly where there is none.
+    pub fn committed_meta(&self, path: &str) -> Option<&Meta>
+        ensures { option_copied result ≡ meta_at self.now.state.nodes path.now }
+    {
+        self.cells.committed_meta(path)
+    }
+
+    /// The data of a node of the committed state; None exactly where there is none.
+    pub fn committed_data(&self, path: &str) -> Option<&[u8]>
+        ensures { option_copied result ≡ bytes_at self.now.state.nodes path.now }
+    {
+        self.cells.committed_content(path)
+    }
+
+    /// A session of the committed state; None exactly where there is none of this number.
+    pub fn committed_session(&self, id: u64) -> Option<&Session>
+        ensures { option_copied result ≡ map.get self.now.state.sessions id }
+    {
+        self.cells.committed_session(id)
+    }
+
+    /// Lends the tree and the sessions with their layers: one for each unapplied entry, and none open.
+    pub fn cells(&self) -> &Cells
+        ensures closed { IsClosed result.now }
+        ensures depth { depth result.now ≡ length self.now.unapplied }
+        ensures committed { committed_state result.now ≡ self.now.state }
+        ensures latest { latest_state result.now ≡ latest_of self.now }
+        ensures committed_parts { committed_parts result.now ≡ parts_of self.now.state }
+        ensures latest_parts { latest_parts result.now ≡ parts_of (latest_of self.now) }
+    {
+        &self.cells
+    }
+}

@@ -3,3 +3,4 @@ pub mod Whole
 pub mod Root
 pub mod Parts
 pub mod Keeping
+pub mod Shown

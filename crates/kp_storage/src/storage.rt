@@ -9,7 +9,7 @@ ghost use Rattle.kp_cells.specs.Parts.{parts_of};
 ghost use Rattle.kp_cells.specs.Overlays.{IsClosed, depth, committed_parts, latest_parts, committed_state, latest_state};
 ghost use Rattle.kp_storage.specs.Built.{is_built};
 
-use kp_cells::Cells;
+use kp_cells::{Cells, CommittedView, LatestView};
 use kp_model::{Committed, Entry, Meta, NoMemory, Reply, Session};
 use kp_prep::{Prepared, prepare};
 use std::alloc::Global;
@@ -220,6 +220,20 @@ impl Storage {
         ensures { option_copied result ≡ map.get self.now.state.sessions id }
     {
         self.cells.committed_session(id)
+    }
+
+    /// The uncommitted state: the replay of the unapplied entries on the committed one.
+    pub fn latest(&self) -> LatestView<'_>
+        ensures { result ≡ latest_of self.now }
+    {
+        self.cells.latest()
+    }
+
+    /// The committed state.
+    pub fn committed(&self) -> CommittedView<'_>
+        ensures { result ≡ self.now.state }
+    {
+        self.cells.committed()
     }
 
     /// Lends the tree and the sessions with their layers: one for each unapplied entry, and none open.

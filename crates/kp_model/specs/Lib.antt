@@ -9,3 +9,5 @@ pub mod Good
 pub mod Store
 pub mod Codes
 pub mod Poured
+pub mod Built
+pub mod Touched

@@ -14,7 +14,8 @@ use Rattle.kp_model.proofs.GoodEmpty.{empty_sound}
 use Rattle.kp_model.specs.declared.node.Node.{Node}
 use Rattle.kp_model.specs.Step.{apply}
 use Rattle.kp_model.proofs.GoodSteps.{apply_sound, after_sound}
-use Rattle.kp_plain.specs.Built.{IsTaken, Keeps}
+use Rattle.kp_model.specs.Built.{IsTaken}
+use Rattle.kp_plain.specs.Kept.{Keeps}
 
 pub keeps_none : Keeps empty []
 unfolding empty

@@ -1,3 +1,3 @@
 pub mod Place
 pub mod Outcomes
-pub mod Built
+pub mod Kept

@@ -6,7 +6,7 @@ ghost use Rattle.kp_model.specs.Grammar.{is_entry};
 ghost use Rattle.kp_model.specs.State.{seen as seen_of};
 ghost use Rattle.kp_model.specs.Step.{apply, Outcome};
 ghost use Rattle.kp_model.specs.Store.{after, latest, last as last_of, empty, with_entry, kept as kept_of, outcome_in, truncated, commit_answer, commit_leaves};
-ghost use Rattle.kp_plain.specs.Built.{is_built, IsTaken};
+ghost use Rattle.kp_model.specs.Built.{is_built, IsTaken};
 
 use crate::answer::Answer;
 use crate::tree::Tree;
@@ -29,7 +29,7 @@ pub struct PlainStore {
 impl Model for PlainStore {
     ghost use Rattle.kp_model.specs.Store.{Store};
     ghost use Rattle.kp_model.specs.Codes.{store_code};
-    ghost use Rattle.kp_plain.specs.Built.{Keeps};
+    ghost use Rattle.kp_plain.specs.Kept.{Keeps};
 
     ghost Value = { Store };
 

@@ -1,6 +1,6 @@
 ghost use Rattle.std.specs.Prelude.{◌≤◌, length, IsTrue, IfOk};
 ghost use Rattle.kp_model.specs.Grammar.{fits_cmd};
-ghost use Rattle.kp_plain.specs.Built.{is_built, is_built_cmd};
+ghost use Rattle.kp_model.specs.Built.{is_built, is_built_cmd};
 
 use crate::PlainStore;
 use kp_model::errors::NOT_EMPTY;

@@ -7,7 +7,7 @@ ghost use Rattle.kp_model.specs.State.{empty, seen as seen_of};
 ghost use Rattle.kp_model.specs.Step as step;
 ghost use Rattle.kp_model.specs.Path.{parent as parent_of};
 ghost use Rattle.kp_plain.specs.Outcomes.{outcome, data_set};
-ghost use Rattle.kp_plain.specs.Built.{is_built, is_built_cmd};
+ghost use Rattle.kp_model.specs.Built.{is_built, is_built_cmd};
 
 use crate::answer::{Answer, one, replied, two};
 use crate::change::{

@@ -1,6 +1,6 @@
 use Rattle.std.proofs.Common.{◌+◌, ◌<◌, length, sym, subst}
 use Rattle.kp_model.specs.Store.{Store}
-use Rattle.kp_plain.specs.Built.{IsTaken}
+use Rattle.kp_model.specs.Built.{IsTaken}
 use Rattle.kp_plain.proofs.Keeping.{keeps_more}
 use Rattle.kp_plain.proofs.store.PlainStore.preprocess.Goals as goal
 

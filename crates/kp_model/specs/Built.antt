@@ -1,5 +1,5 @@
--- The entries that the store takes.
-use Rattle.std.specs.Prelude.{Bool, true, false, ◌&&◌, ◌==◌, ◌+◌, ◌≤◌, ◌^◌, List, [], ◌∷◌, length, IsTrue, All}
+-- The entries that a store takes so far.
+use Rattle.std.specs.Prelude.{Bool, true, false, ◌&&◌, ◌==◌, List, [], ◌∷◌, IsTrue}
 use Rattle.std.specs.Str.{bytes_eq}
 use Rattle.kp_model.specs.declared.node.Acl.{Acl}
 use Rattle.kp_model.specs.declared.command.Cmd.{Cmd}
@@ -8,8 +8,6 @@ use Rattle.kp_model.specs.declared.entry.Body.{Body}
 use Rattle.kp_model.specs.declared.entry.Body.TheVariants as body
 use Rattle.kp_model.specs.LogEntry.{LogEntry}
 use Rattle.kp_model.specs.Grammar.{is_entry}
-use Rattle.kp_model.specs.State.{State}
-use Rattle.kp_model.specs.Good.{IsSound}
 use lib.Chars.{codes}
 
 -- whether this is the one line that gives every right to everyone
@@ -32,12 +30,6 @@ is_built (body.OpenSession timeout passwd origin) = true
 is_built (body.Write session epoch seq c) = is_built_cmd c
 is_built _ = false
 
--- an entry that the store takes: one that can be written down, and whose body is built
+-- an entry that a store takes: one that can be written down, and whose body is built
 abbrev pub IsTaken : LogEntry → Type 0
 IsTaken e = IsTrue (is_entry e) × IsTrue (is_built e.body)
-
--- what the store keeps: a sound committed state, indexes within their limit, and entries that it takes
-pub record Keeps (s : State) (es : List LogEntry) : Type 0 where
-  pub sound : IsSound s
-  pub room : s.applied + length es ≤ 2 ^ 62
-  pub taken : All IsTaken es

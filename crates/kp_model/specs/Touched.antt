@@ -1,0 +1,50 @@
+-- The paths and the sessions that an entry may write at.
+use Rattle.std.specs.Prelude.{ℕ, List, [], ◌∷◌, ◌++◌, map}
+use Rattle.kp_model.specs.declared.command.Op.{Op}
+use Rattle.kp_model.specs.declared.command.Op.TheVariants as op
+use Rattle.kp_model.specs.declared.command.Cmd.{Cmd}
+use Rattle.kp_model.specs.declared.command.Cmd.TheVariants as cmd
+use Rattle.kp_model.specs.declared.entry.Body.{Body}
+use Rattle.kp_model.specs.declared.entry.Body.TheVariants as body
+use Rattle.kp_model.specs.LogEntry.{LogEntry}
+use Rattle.kp_model.specs.Path.{parent}
+use Rattle.kp_model.specs.State.{State, Nodes, owned}
+
+pub record Touched : Type 0 where
+  pub paths : List (List ℕ)
+  pub sessions : List ℕ
+
+-- these paths and their parents
+abbrev pub with_parents : List (List ℕ) → List (List ℕ)
+with_parents ps = ps ++ map parent ps
+
+-- the path that an operation of a multi names
+abbrev pub path_of_op : Op → List ℕ
+path_of_op (op.Create path bytes acl flags stat) = path
+path_of_op (op.Delete path version) = path
+path_of_op (op.SetData path bytes version) = path
+path_of_op (op.Check path version) = path
+
+-- the paths that a command of a session names; a closing stands for those that the session owns
+abbrev pub paths_of : Nodes → ℕ → Cmd → List (List ℕ)
+paths_of nodes id (cmd.Create path bytes acl flags stat) = path ∷ []
+paths_of nodes id (cmd.Delete path version) = path ∷ []
+paths_of nodes id (cmd.SetData path bytes version) = path ∷ []
+paths_of nodes id (cmd.SetAcl path acl version) = path ∷ []
+paths_of nodes id (cmd.Check path version) = path ∷ []
+paths_of nodes id (cmd.Auth scheme auth) = []
+paths_of nodes id (cmd.Multi ops) = map path_of_op ops
+paths_of nodes id (cmd.Sync path) = path ∷ []
+paths_of nodes id cmd.CloseSession = owned nodes id
+
+-- what a body touches: its session, or the one that it opens, and the paths that it names with their parents
+abbrev pub touched_by : State → Body → Touched
+touched_by s body.Noop = record { paths = []; sessions = [] }
+touched_by s (body.OpenSession timeout passwd origin) = record { paths = []; sessions = s.next ∷ [] }
+touched_by s (body.Attach session passwd origin) = record { paths = []; sessions = session ∷ [] }
+touched_by s (body.Expire session) = record { paths = with_parents (owned s.nodes session); sessions = session ∷ [] }
+touched_by s (body.Write session epoch seq c) = record { paths = with_parents (paths_of s.nodes session c); sessions = session ∷ [] }
+
+-- what an entry touches
+unfoldable pub touched : State → LogEntry → Touched
+touched s e = touched_by s e.body

@@ -37,13 +37,17 @@ paths_of nodes id (cmd.Multi ops) = map path_of_op ops
 paths_of nodes id (cmd.Sync path) = path ∷ []
 paths_of nodes id cmd.CloseSession = owned nodes id
 
--- what a body touches: its session, or the one that it opens, and the paths that it names with their parents
+-- what a command of a session touches: the session, and those paths with their parents
+abbrev pub touched_in : State → ℕ → Cmd → Touched
+touched_in s session c = record { paths = with_parents (paths_of s.nodes session c); sessions = session ∷ [] }
+
+-- what a body touches: an opening the session that it opens, and an expiry what a closing does
 abbrev pub touched_by : State → Body → Touched
 touched_by s body.Noop = record { paths = []; sessions = [] }
 touched_by s (body.OpenSession timeout passwd origin) = record { paths = []; sessions = s.next ∷ [] }
 touched_by s (body.Attach session passwd origin) = record { paths = []; sessions = session ∷ [] }
-touched_by s (body.Expire session) = record { paths = with_parents (owned s.nodes session); sessions = session ∷ [] }
-touched_by s (body.Write session epoch seq c) = record { paths = with_parents (paths_of s.nodes session c); sessions = session ∷ [] }
+touched_by s (body.Expire session) = touched_in s session cmd.CloseSession
+touched_by s (body.Write session epoch seq c) = touched_in s session c
 
 -- what an entry touches
 unfoldable pub touched : State → LogEntry → Touched

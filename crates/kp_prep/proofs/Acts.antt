@@ -13,6 +13,7 @@ use Rattle.kp_model.specs.Good.{IsGood}
 use Rattle.std.specs.Str.{bytes_eq}
 use Rattle.std.proofs.lemmas.Slice.Eq.{bytes_eq-Decides}
 use Rattle.kp_model.specs.Path.{root, parent, name, is_well_formed}
+use Rattle.kp_model.specs.Poured.{node_of}
 use Rattle.kp_model.specs.State.{State, Nodes, meta_of, meta_at, stat, children, kids}
 use Rattle.kp_model.specs.Step.{Outcome, unless, changed, changed_reply, grown, created, shrunk, deleted, set, with_child, without_child, with_data, new_node, create_fails, version_fails}
 use Rattle.kp_cells.specs.Parts.{parts_of}
@@ -77,6 +78,9 @@ created_does s ids i t path bytes acl with_stat up good h =
       parts = ap (λ m. effected (parts_of s) (effect.Make path bytes acl (meta_of 0 w) m)) shown
           ∙ sym (parts-made s path p.0 v p.1 h.child.1 refl refl refl w refl rooted free)
           ∙ sym (ap (λ z. parts_of (record s { nodes = z })) grow);
+      nodes = ap (λ o. map.insert (changed (λ (n : Node). node_of n.bytes n.acl (with_child_shown i up)) (parent path) o s.nodes) path w) p.1
+          ∙ ap (λ m. map.insert (map.insert s.nodes (parent path) (node_of p.0.bytes p.0.acl m)) path w) shown
+          ∙ sym grow;
       on = (refl, record { child = h.child; above = formed s good (parent path) p.0 p.1 });
       owner = tt;
     })
@@ -116,6 +120,9 @@ deleted_does s i path found left good above there child is_left =
           ∙ ap (λ o. effected (parts_of s) (effect.Remove path (meta_of (c - 1) v) o)) owner
           ∙ sym (parts-gone s path p.0 v p.1 child.1 refl refl refl q.0 q.1)
           ∙ sym (ap (λ z. parts_of (record s { nodes = z })) shrink);
+      nodes = ap (λ o. map.remove (changed (λ (n : Node). node_of n.bytes n.acl (without_child_shown i left found.up)) (parent path) o s.nodes) path) p.1
+          ∙ ap (λ m. map.remove (map.insert s.nodes (parent path) (node_of p.0.bytes p.0.acl m)) path) shown
+          ∙ sym shrink;
       on = (refl, record { child = child; above = formed s good (parent path) p.0 p.1 });
       owner = owner_told s path q.0 found.meta.owner q.1 owner;
     }
@@ -140,6 +147,9 @@ set_does s ids perm i t path bytes version m h =
       parts = ap (λ x. effected (parts_of s) (effect.Set path bytes x)) shown
           ∙ sym (parts-set s path p.0 v p.1 refl refl)
           ∙ sym (ap (λ z. parts_of (record s { nodes = z })) now);
+      nodes = ap (λ o. changed (λ (n : Node). node_of bytes n.acl (with_data_shown i t bytes m)) path o s.nodes) p.1
+          ∙ ap (λ x. map.insert s.nodes path (node_of bytes p.0.acl x)) shown
+          ∙ sym now;
       on = (refl, h.well_formed);
       owner = tt;
     })

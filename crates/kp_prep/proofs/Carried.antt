@@ -13,6 +13,7 @@ use Rattle.kp_model.specs.declared.session.Session.{Session}
 use Rattle.kp_model.specs.Path.{parent}
 use Rattle.kp_model.specs.State.{State, path_cmp}
 use Rattle.kp_model.specs.Step.{Outcome}
+use Rattle.kp_model.specs.Touched.{Touched}
 use Rattle.kp_cells.specs.Overlays.{Overlays, IsOpen, latest_parts, latest_state, all_begun, all_undone, marks_of, next_in, with_owned}
 use Rattle.kp_cells.specs.Parts.{Parts, parts_of, whole, FitTogether}
 use Rattle.kp_prep.specs.declared.plan.Effect.{Effect}
@@ -99,8 +100,8 @@ plan_carried o p h =
     ∙ ap (λ z. effected z p.effect) (next_carried s p.next ∙ ap (λ (z : Parts). record z { next = next_after z.next p.next }) (session_carried o p.session))
 
 -- the parts of a state with an entry's plan carried out are those of the state after the entry
-pub stands : (o : Overlays) (s : State) (out : Outcome) (p : Plan) → latest_parts o ≡ parts_of s → IsPlan s out p → latest_parts (staged_plan o p) ≡ parts_of out.state
-stands o s out p same h =
+pub stands : (k : Touched) (o : Overlays) (s : State) (out : Outcome) (p : Plan) → latest_parts o ≡ parts_of s → IsPlan k s out p → latest_parts (staged_plan o p) ≡ parts_of out.state
+stands k o s out p same h =
     plan_carried o p (subst (λ z. TellsOwner z p.effect) (sym same) h.owner)
     ∙ ap (λ z. planned z p) same
     ∙ h.parts

@@ -4,6 +4,7 @@ pub mod Owners
 pub mod Outcomes
 pub mod Seen
 pub mod Acts
+pub mod Within
 pub mod Plans
 pub mod Carried
 pub mod Numbered

@@ -11,50 +11,53 @@ use Rattle.kp_model.specs.declared.session.Origin.{Origin}
 use Rattle.kp_model.specs.declared.session.Session.{Session}
 use Rattle.kp_model.specs.Errors.{session_expired}
 use Rattle.kp_model.specs.State.{State, Sessions, is_held}
+use Rattle.kp_model.specs.Touched.{Touched, touched, touched_by, touched_in}
+use Rattle.kp_model.specs.declared.entry.Body.TheVariants as body
 use Rattle.kp_model.specs.Step.{Outcome, unless, replies, created, deleted, set, act, opened, new_session, written_by, with_seq, take_body, apply}
 use Rattle.kp_cells.specs.Parts.{Parts, parts_of}
 use Rattle.kp_prep.specs.declared.plan.Act.{Act}
 use Rattle.kp_prep.specs.declared.plan.Plan.{Plan}
 use Rattle.kp_prep.specs.declared.plan.Effect.{Effect}
 use Rattle.kp_prep.specs.declared.plan.Effect.TheVariants as effect
-use Rattle.kp_prep.specs.Effects.{IsOn, IsFit, IsAct, IsPlan, effected, answer_plan, opening_plan, acting_plan}
+use Rattle.kp_prep.specs.Effects.{IsOn, IsFit, IsAct, IsPlan, effected, answer_plan, opening_plan, acting_plan, path_of}
+use Rattle.kp_prep.proofs.Within.{the_one, among_named}
 
 -- an answer alone
-pub answered_is : (s : State) (applied : ℕ) (r : Reply) → IsPlan s (replies (record s { applied = applied }) r) (answer_plan r)
+pub answered_is : (k : Touched) (s : State) (applied : ℕ) (r : Reply) → IsPlan k s (replies (record s { applied = applied }) r) (answer_plan r)
 unfolding parts_of
-answered_is s applied r = record { reply = refl; events = refl; parts = refl; owner = tt; fit = tt }
+answered_is k s applied r = record { reply = refl; events = refl; parts = refl; nodes = refl; owner = tt; fit = tt; paths = tt; sessions = tt }
 
 -- a session that is not opened
-pub opened_late : (s : State) (applied timeout : ℕ) (passwd : List ℕ) (origin : Origin) → (is_held s.sessions origin || nat_le 4611686018427387904 s.next) ≡ true → IsPlan s (opened (record s { applied = applied }) timeout passwd origin) (answer_plan reply.Stale)
+pub opened_late : (k : Touched) (s : State) (applied timeout : ℕ) (passwd : List ℕ) (origin : Origin) → (is_held s.sessions origin || nat_le 4611686018427387904 s.next) ≡ true → IsPlan k s (opened (record s { applied = applied }) timeout passwd origin) (answer_plan reply.Stale)
 unfolding opened
-opened_late s applied timeout passwd origin late =
+opened_late k s applied timeout passwd origin late =
     let z : State = record s { applied = applied } in
-    subst (λ b. IsPlan s (if b then replies z reply.Stale else replies (record z { sessions = map.insert z.sessions z.next (new_session timeout passwd origin); next = z.next + 1 }) (reply.Session z.next)) (answer_plan reply.Stale)) (sym late) (answered_is s applied reply.Stale)
+    subst (λ b. IsPlan k s (if b then replies z reply.Stale else replies (record z { sessions = map.insert z.sessions z.next (new_session timeout passwd origin); next = z.next + 1 }) (reply.Session z.next)) (answer_plan reply.Stale)) (sym late) (answered_is k s applied reply.Stale)
 
-opened_is : (s : State) (applied : ℕ) (x : Session) → IsPlan s (replies (record s { applied = applied; sessions = map.insert s.sessions s.next x; next = s.next + 1 }) (reply.Session s.next)) (opening_plan s.next x)
+opened_is : (timeout : ℕ) (passwd : List ℕ) (origin : Origin) (s : State) (applied : ℕ) (x : Session) → IsPlan (touched_by s (body.OpenSession timeout passwd origin)) s (replies (record s { applied = applied; sessions = map.insert s.sessions s.next x; next = s.next + 1 }) (reply.Session s.next)) (opening_plan s.next x)
 unfolding parts_of
-opened_is s applied x = record { reply = refl; events = refl; parts = refl; owner = tt; fit = tt }
+opened_is timeout passwd origin s applied x = record { reply = refl; events = refl; parts = refl; nodes = refl; owner = tt; fit = tt; paths = tt; sessions = the_one s.next }
 
 -- a session that is opened
-pub opened_new : (s : State) (applied timeout : ℕ) (passwd : List ℕ) (origin : Origin) → (is_held s.sessions origin || nat_le 4611686018427387904 s.next) ≡ false → IsPlan s (opened (record s { applied = applied }) timeout passwd origin) (opening_plan s.next (new_session timeout passwd origin))
+pub opened_new : (s : State) (applied timeout : ℕ) (passwd : List ℕ) (origin : Origin) → (is_held s.sessions origin || nat_le 4611686018427387904 s.next) ≡ false → IsPlan (touched_by s (body.OpenSession timeout passwd origin)) s (opened (record s { applied = applied }) timeout passwd origin) (opening_plan s.next (new_session timeout passwd origin))
 unfolding opened
 opened_new s applied timeout passwd origin late =
     let z : State = record s { applied = applied } in
-    subst (λ b. IsPlan s (if b then replies z reply.Stale else replies (record z { sessions = map.insert z.sessions z.next (new_session timeout passwd origin); next = z.next + 1 }) (reply.Session z.next)) (opening_plan s.next (new_session timeout passwd origin))) (sym late) (opened_is s applied (new_session timeout passwd origin))
+    subst (λ b. IsPlan (touched_by s (body.OpenSession timeout passwd origin)) s (if b then replies z reply.Stale else replies (record z { sessions = map.insert z.sessions z.next (new_session timeout passwd origin); next = z.next + 1 }) (reply.Session z.next)) (opening_plan s.next (new_session timeout passwd origin))) (sym late) (opened_is timeout passwd origin s applied (new_session timeout passwd origin))
 
 -- a write of a session that is dead
-pub written_dead : (s : State) (i t id epoch seq : ℕ) (c : Cmd) → None ≡ map.get s.sessions id → IsPlan s (written_by (map.get s.sessions id) (record s { applied = i }) i t id epoch seq c) (answer_plan (reply.Err session_expired))
-written_dead s i t id epoch seq c none = subst (λ o. IsPlan s (written_by o (record s { applied = i }) i t id epoch seq c) (answer_plan (reply.Err session_expired))) none (answered_is s i (reply.Err session_expired))
+pub written_dead : (k : Touched) (s : State) (i t id epoch seq : ℕ) (c : Cmd) → None ≡ map.get s.sessions id → IsPlan k s (written_by (map.get s.sessions id) (record s { applied = i }) i t id epoch seq c) (answer_plan (reply.Err session_expired))
+written_dead k s i t id epoch seq c none = subst (λ o. IsPlan k s (written_by o (record s { applied = i }) i t id epoch seq c) (answer_plan (reply.Err session_expired))) none (answered_is k s i (reply.Err session_expired))
 
 -- another epoch or number
-pub written_stale : (s : State) (i t id epoch seq : ℕ) (c : Cmd) (x : Session) → (epoch == x.epoch && seq == x.seq + 1) ≡ false → IsPlan s (written_by (Some x) (record s { applied = i }) i t id epoch seq c) (answer_plan reply.Stale)
-written_stale s i t id epoch seq c x due =
-    subst (λ b. IsPlan s (if not b then replies (record s { applied = i }) reply.Stale else act (record s { applied = i; sessions = map.insert s.sessions id (with_seq seq x) }) x.ids i t c) (answer_plan reply.Stale)) (sym due) (answered_is s i reply.Stale)
+pub written_stale : (k : Touched) (s : State) (i t id epoch seq : ℕ) (c : Cmd) (x : Session) → (epoch == x.epoch && seq == x.seq + 1) ≡ false → IsPlan k s (written_by (Some x) (record s { applied = i }) i t id epoch seq c) (answer_plan reply.Stale)
+written_stale k s i t id epoch seq c x due =
+    subst (λ b. IsPlan k s (if not b then replies (record s { applied = i }) reply.Stale else act (record s { applied = i; sessions = map.insert s.sessions id (with_seq seq x) }) x.ids i t c) (answer_plan reply.Stale)) (sym due) (answered_is k s i reply.Stale)
 
 -- the next write of the epoch
-pub written_due : (s : State) (i t id epoch seq : ℕ) (c : Cmd) (x : Session) (p : Plan) → (epoch == x.epoch && seq == x.seq + 1) ≡ true → IsPlan s (act (record s { applied = i; sessions = map.insert s.sessions id (with_seq seq x) }) x.ids i t c) p → IsPlan s (written_by (Some x) (record s { applied = i }) i t id epoch seq c) p
-written_due s i t id epoch seq c x p due h =
-    subst (λ b. IsPlan s (if not b then replies (record s { applied = i }) reply.Stale else act (record s { applied = i; sessions = map.insert s.sessions id (with_seq seq x) }) x.ids i t c) p) (sym due) h
+pub written_due : (k : Touched) (s : State) (i t id epoch seq : ℕ) (c : Cmd) (x : Session) (p : Plan) → (epoch == x.epoch && seq == x.seq + 1) ≡ true → IsPlan k s (act (record s { applied = i; sessions = map.insert s.sessions id (with_seq seq x) }) x.ids i t c) p → IsPlan k s (written_by (Some x) (record s { applied = i }) i t id epoch seq c) p
+written_due k s i t id epoch seq c x p due h =
+    subst (λ b. IsPlan k s (if not b then replies (record s { applied = i }) reply.Stale else act (record s { applied = i; sessions = map.insert s.sessions id (with_seq seq x) }) x.ids i t c) p) (sym due) h
 
 -- the state at another index with other sessions
 abbrev moved : ℕ → Sessions → State → State
@@ -101,22 +104,25 @@ fit_on path (effect.Remove q up owner) h = h.1
 fit_on path (effect.Set q bytes meta) h = h.1
 
 -- an act of a session that has the number then
-pub acted_is : (path : List ℕ) (s : State) (ids : List (List ℕ)) (i t id : ℕ) (x : Session) (c : Cmd) (a : Act) → IsAct path s (act s ids i t c) a → IsPlan s (act (record s { applied = i; sessions = map.insert s.sessions id x }) ids i t c) (acting_plan id x a)
-acted_is path s ids i t id x c a h =
+pub acted_is : (s : State) (ids : List (List ℕ)) (i t id : ℕ) (x : Session) (c : Cmd) (a : Act) → IsAct (path_of c) s (act s ids i t c) a → IsPlan (touched_in s id c) s (act (record s { applied = i; sessions = map.insert s.sessions id x }) ids i t c) (acting_plan id x a)
+acted_is s ids i t id x c a h =
     let sessions : Sessions = map.insert s.sessions id x in
-    subst (λ o. IsPlan s o (acting_plan id x a)) (sym (act-moved i sessions s ids i t c)) (record {
+    subst (λ o. IsPlan (touched_in s id c) s o (acting_plan id x a)) (sym (act-moved i sessions s ids i t c)) (record {
       reply = h.reply;
       events = h.events;
       parts = parts_sessions s id x a.effect
           ∙ effected-moved (parts_of s) sessions a.effect
           ∙ ap (λ (z : Parts). record z { sessions = sessions }) h.parts
           ∙ parts-moved i sessions (act s ids i t c).state;
+      nodes = h.nodes;
       owner = h.owner;
-      fit = fit_on path a.effect h.on;
+      fit = fit_on (path_of c) a.effect h.on;
+      paths = among_named s.nodes id c a.effect h.on;
+      sessions = the_one id;
     })
 
 -- the entry is taken at the index behind the applied one
-pub planned_entry : (s : State) (i : ℕ) (d e : LogEntry) (p : Plan) → s.applied + 1 ≡ i → d ≡ e → IsPlan s (take_body (record s { applied = i }) i d.time d.body) p → IsPlan s (apply s e) p
-unfolding apply
+pub planned_entry : (s : State) (i : ℕ) (d e : LogEntry) (p : Plan) → s.applied + 1 ≡ i → d ≡ e → IsPlan (touched_by s d.body) s (take_body (record s { applied = i }) i d.time d.body) p → IsPlan (touched s e) s (apply s e) p
+unfolding apply touched
 planned_entry s i d e p next same h =
-    subst (λ z. IsPlan s (apply s z) p) same (subst (λ n. IsPlan s (take_body (record s { applied = n }) n d.time d.body) p) (sym next) h)
+    subst (λ z. IsPlan (touched s z) s (apply s z) p) same (subst (λ n. IsPlan (touched_by s d.body) s (take_body (record s { applied = n }) n d.time d.body) p) (sym next) h)

@@ -12,13 +12,16 @@ use Rattle.kp_model.specs.declared.reply.Reply.{Reply}
 use Rattle.kp_model.specs.declared.reply.Reply.TheVariants as reply
 use Rattle.kp_model.specs.Path.{root, parent, is_well_formed}
 use Rattle.kp_model.specs.State.{State, Nodes, Sessions, path_cmp, meta_of, meta_at}
-use Rattle.kp_model.specs.Step.{Outcome, rises, new_node, create_fails, delete_fails, version_fails}
+use Rattle.kp_model.specs.Poured.{node_of}
+use Rattle.kp_model.specs.Step.{Outcome, rises, new_node, changed, create_fails, delete_fails, version_fails}
+use Rattle.kp_model.specs.Touched.{Touched}
 use Rattle.kp_cells.specs.Parts.{Parts, parts_of}
 use Rattle.kp_prep.specs.declared.plan.Act.{Act}
 use Rattle.kp_prep.specs.declared.plan.Effect.{Effect}
 use Rattle.kp_prep.specs.declared.plan.Effect.TheVariants as effect
 use Rattle.kp_prep.specs.declared.plan.Found.{Found}
 use Rattle.kp_prep.specs.declared.plan.Plan.{Plan}
+use Rattle.kp_prep.specs.Touching.{IsEffectAmong, IsSessionAmong}
 
 -- a path that has a parent
 abbrev pub IsChildPath : List ℕ → Type 0
@@ -120,6 +123,17 @@ effected p (effect.Set path bytes meta) = record p {
   contents = map.insert p.contents path bytes;
 }
 
+-- the nodes with the one at a path showing other numbers, where there is one
+abbrev pub renumbered : Nodes → List ℕ → Meta → Nodes
+renumbered nodes p m = changed (λ n. node_of n.bytes n.acl m) p (map.get nodes p) nodes
+
+-- the nodes after an effect
+abbrev pub effected_nodes : Nodes → Effect → Nodes
+effected_nodes nodes effect.Nothing = nodes
+effected_nodes nodes (effect.Make path bytes acl meta up) = map.insert (renumbered nodes (parent path) up) path (node_of bytes acl meta)
+effected_nodes nodes (effect.Remove path up owner) = map.remove (renumbered nodes (parent path) up) path
+effected_nodes nodes (effect.Set path bytes meta) = changed (λ n. node_of bytes n.acl meta) path (map.get nodes path) nodes
+
 -- the sessions with one set
 abbrev pub renewed : Sessions → Option (ℕ × Session) → Sessions
 renewed sessions None = sessions
@@ -175,6 +189,7 @@ pub record IsAct (path : List ℕ) (s : State) (o : Outcome) (a : Act) : Type 0 
   pub reply : a.prepared.reply ≡ o.reply
   pub events : a.prepared.events ≡ o.events
   pub parts : effected (parts_of s) a.effect ≡ parts_of o.state
+  pub nodes : effected_nodes s.nodes a.effect ≡ o.state.nodes
   pub on : IsOn path a.effect
   pub owner : TellsOwner (parts_of s) a.effect
 
@@ -190,10 +205,13 @@ opening_plan id x = record { prepared = record { reply = reply.Session id; event
 abbrev pub acting_plan : ℕ → Session → Act → Plan
 acting_plan id x a = record { prepared = a.prepared; session = Some (id, x); next = None; effect = a.effect }
 
--- the plan is what an entry does that leads from a state to this outcome
-pub record IsPlan (s : State) (o : Outcome) (p : Plan) : Type 0 where
+-- the plan is what an entry does that leads from a state to this outcome and touches only these keys
+pub record IsPlan (t : Touched) (s : State) (o : Outcome) (p : Plan) : Type 0 where
   pub reply : p.prepared.reply ≡ o.reply
   pub events : p.prepared.events ≡ o.events
   pub parts : planned (parts_of s) p ≡ parts_of o.state
+  pub nodes : effected_nodes s.nodes p.effect ≡ o.state.nodes
   pub owner : TellsOwner (parts_of s) p.effect
   pub fit : IsFit p.effect
+  pub paths : IsEffectAmong t.paths p.effect
+  pub sessions : IsSessionAmong t.sessions p.session

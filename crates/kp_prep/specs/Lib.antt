@@ -1,3 +1,4 @@
 pub mod Looks
+pub mod Touching
 pub mod Effects
 pub mod Staged

@@ -7,6 +7,8 @@ ghost use Rattle.kp_model.specs.Good.{IsSound};
 ghost use Rattle.kp_model.specs.State.{is_held};
 ghost use Rattle.kp_model.specs.Step as step;
 ghost use Rattle.kp_model.specs.Step.{apply, opened, written_by, new_session, with_seq};
+ghost use Rattle.kp_model.specs.Touched.{touched, touched_by, touched_in};
+ghost use Rattle.kp_model.specs.declared.entry.Body.TheVariants as body;
 ghost use Rattle.kp_prep.specs.Effects.{IsPlan, answer_plan, opening_plan, acting_plan};
 
 use crate::act::act;
@@ -27,7 +29,7 @@ pub(crate) fn plan<V: View>(
 ) -> Result<Plan, NoMemory>
     requires sound { IsSound (V.state view.now) }
     requires next { (V.state view.now).applied + 1 ≡ index }
-    ensures { IfOk result (IsPlan (V.state view.now) (apply (V.state view.now) entry.now)) }
+    ensures { IfOk result (IsPlan (touched (V.state view.now) entry.now) (V.state view.now) (apply (V.state view.now) entry.now)) }
 {
     let stamp = Stamp {
         index,
@@ -68,7 +70,7 @@ fn answer(alloc: Global, reply: Reply) -> Plan
 
 // What opening a session does.
 fn open<V: View>(alloc: Global, view: &V, timeout: u32, passwd: [u8; 16], origin: Origin) -> Plan
-    ensures { (applied : ℕ) → IsPlan (V.state view.now) (opened (record (V.state view.now) { applied = applied }) timeout passwd origin) result }
+    ensures { let s = V.state view.now in (applied : ℕ) → IsPlan (touched_by s (body.OpenSession timeout passwd origin)) s (opened (record s { applied = applied }) timeout passwd origin) result }
 {
     let late = is_late(view, &origin);
     if late {
@@ -123,7 +125,7 @@ fn write<V: View>(
 ) -> Result<Plan, NoMemory>
     requires sound { IsSound (V.state view.now) }
     requires fits { IsTrue (fits_cmd cmd.now) }
-    ensures { let s = V.state view.now in IfOk result (IsPlan s (written_by (map.get s.sessions id) (record s { applied = stamp.index }) stamp.index stamp.time id epoch seq cmd.now)) }
+    ensures { let s = V.state view.now in IfOk result (IsPlan (touched_in s id cmd.now) s (written_by (map.get s.sessions id) (record s { applied = stamp.index }) stamp.index stamp.time id epoch seq cmd.now)) }
 {
     match view.session(id) {
         None => Ok(answer(alloc, Reply::Err(SESSION_EXPIRED))),
@@ -144,7 +146,7 @@ fn write_of<V: View>(
 ) -> Result<Plan, NoMemory>
     requires sound { IsSound (V.state view.now) }
     requires fits { IsTrue (fits_cmd cmd.now) }
-    ensures { let s = V.state view.now in IfOk result (IsPlan s (written_by (Some session.now) (record s { applied = stamp.index }) stamp.index stamp.time id epoch seq cmd.now)) }
+    ensures { let s = V.state view.now in IfOk result (IsPlan (touched_in s id cmd.now) s (written_by (Some session.now) (record s { applied = stamp.index }) stamp.index stamp.time id epoch seq cmd.now)) }
 {
     let due = is_due(session, epoch, seq);
     if due {
@@ -180,7 +182,7 @@ fn acted<V: View>(
 ) -> Result<Plan, NoMemory>
     requires sound { IsSound (V.state view.now) }
     requires fits { IsTrue (fits_cmd cmd.now) }
-    ensures { let s = V.state view.now in IfOk result (IsPlan s (step.act (record s { applied = stamp.index; sessions = map.insert s.sessions id (with_seq seq session.now) }) session.now.ids stamp.index stamp.time cmd.now)) }
+    ensures { let s = V.state view.now in IfOk result (IsPlan (touched_in s id cmd.now) s (step.act (record s { applied = stamp.index; sessions = map.insert s.sessions id (with_seq seq session.now) }) session.now.ids stamp.index stamp.time cmd.now)) }
 {
     match act(alloc, view, &session.ids, stamp, cmd) {
         Err(refused) => Err(refused),

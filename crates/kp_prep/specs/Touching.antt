@@ -1,0 +1,71 @@
+-- The keys that a layer writes at, and those that may be written at.
+use Rattle.std.specs.Prelude.{ℕ, Bool, ◌==◌, List, [], ◌++◌, map, Option, Some, None, unwrap_or, slice_get, IsTrue}
+use Rattle.std.specs.List.{list_all, list_any}
+use Rattle.std.specs.Str.{bytes_eq}
+use Rattle.std.specs.declared.cmp.Ordering.{Ordering}
+use Rattle.kp_layers.specs.Layering.{Layering, staged_of}
+use Rattle.kp_model.specs.declared.node.Acl.{Acl}
+use Rattle.kp_model.specs.declared.node.Meta.{Meta}
+use Rattle.kp_model.specs.declared.session.Session.{Session}
+use Rattle.kp_model.specs.Path.{parent}
+use Rattle.kp_model.specs.Touched.{Touched}
+use Rattle.kp_cells.specs.Overlays.{Overlays}
+use Rattle.kp_prep.specs.declared.plan.Effect.{Effect}
+use Rattle.kp_prep.specs.declared.plan.Effect.TheVariants as effect
+
+-- the paths that a layer writes at in any part, and the sessions
+pub record Keys : Type 0 where
+  pub paths : List (List ℕ)
+  pub sessions : List ℕ
+
+-- the keys of writes
+abbrev pub keys : {K V : Type 0} → List (K × Option V) → List K
+keys ws = map (λ w. w.0) ws
+
+-- the keys of the writes in all parts
+abbrev pub keys_of : List (List ℕ × Option Meta) → List (List ℕ × Option (List ℕ)) → List (List ℕ × Option (List Acl)) → List (List ℕ × Option (Unit {0})) → List (List ℕ × Option ℕ) → List (ℕ × Option Session) → Keys
+keys_of metas contents acls children owners sessions = record {
+  paths = keys metas ++ (keys contents ++ (keys acls ++ (keys children ++ keys owners)));
+  sessions = keys sessions;
+}
+
+-- the keys that the open layer writes at
+abbrev pub staged_keys : Overlays → Keys
+staged_keys o = keys_of (staged_of o.metas) (staged_of o.contents) (staged_of o.acls) (staged_of o.children) (staged_of o.owners) (staged_of o.sessions)
+
+-- the writes of the sealed layer at this place, counted from 0
+abbrev pub layer : {K : Type 0} {R : K → K → Ordering} {V : Type 0} → ℕ → Layering R V → List (K × Option V)
+layer j l = unwrap_or (slice_get l.layers j) []
+
+-- the keys that the sealed layer at this place writes at
+abbrev pub layer_keys : ℕ → Overlays → Keys
+layer_keys j o = keys_of (layer j o.metas) (layer j o.contents) (layer j o.acls) (layer j o.children) (layer j o.owners) (layer j o.sessions)
+
+-- whether the path is one of these
+abbrev pub is_among : List (List ℕ) → List ℕ → Bool
+is_among ps p = list_any (bytes_eq p) ps
+
+-- whether the session is one of these
+abbrev pub is_one_of : List ℕ → ℕ → Bool
+is_one_of ids id = list_any (λ n. n == id) ids
+
+-- every key is one that is touched
+pub record AreWithin (t : Touched) (k : Keys) : Type 0 where
+  pub paths : IsTrue (list_all (is_among t.paths) k.paths)
+  pub sessions : IsTrue (list_all (is_one_of t.sessions) k.sessions)
+
+-- a path and its parent are among these
+abbrev pub IsFamilyAmong : List (List ℕ) → List ℕ → Type 0
+IsFamilyAmong ps path = IsTrue (is_among ps path) × IsTrue (is_among ps (parent path))
+
+-- an effect changes nodes at these paths alone
+abbrev pub IsEffectAmong : List (List ℕ) → Effect → Type 0
+IsEffectAmong ps effect.Nothing = Unit {0}
+IsEffectAmong ps (effect.Make path bytes acl meta up) = IsFamilyAmong ps path
+IsEffectAmong ps (effect.Remove path up owner) = IsFamilyAmong ps path
+IsEffectAmong ps (effect.Set path bytes meta) = IsTrue (is_among ps path)
+
+-- a session that is set is one of these
+abbrev pub IsSessionAmong : List ℕ → Option (ℕ × Session) → Type 0
+IsSessionAmong ids None = Unit {0}
+IsSessionAmong ids (Some x) = IsTrue (is_one_of ids x.0)

@@ -1,1 +1,2 @@
 pub mod Slash
+pub mod Sequenced

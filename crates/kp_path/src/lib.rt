@@ -1,12 +1,17 @@
-//! Paths of nodes: which texts are paths, the path of a node's parent and a node's own name.
+//! Paths of nodes: which texts are paths, the path of a node's parent, a node's own name, and the path of a node
+//! that is made with a running number.
 #![tactic(auto)]
 
-ghost use Rattle.std.specs.Prelude.{◌≡◌, ◌==◌, ◌&&◌, not, false, IsTrue, IfSome, MatchResult, option_copied, if◌then◌else◌};
+ghost use Rattle.std.specs.Prelude.{◌≡◌, ◌+◌, ◌==◌, ◌&&◌, not, false, IsTrue, IfOk, IfSome, MatchResult, option_copied, if◌then◌else◌, length};
 ghost use Rattle.std.specs.Str.{bytes_eq};
 ghost use Rattle.std.specs.List.{list_all, slice_split};
 ghost use Rattle.kp_model.specs.Path as paths;
 ghost use Rattle.kp_model.specs.Path.{is_well_formed};
 ghost use Rattle.kp_path.specs.Slash.{IsSlashAt};
+ghost use Rattle.kp_path.specs.Sequenced.{sequenced};
+
+use kp_model::{NoMemory, Text};
+use std::alloc::Global;
 
 /// The text is no path of a node.
 #[derive(Clone, Copy, Debug, PartialEq, Eq)]
@@ -42,6 +47,17 @@ pub fn name(path: &str) -> &str
     ensures { result.now ≡ paths.name path.now }
 {
     behind(path, last_slash(path.as_bytes()))
+}
+
+/// The path of a node that is made with a running number: the path that was asked for, which may end in
+/// `/`, and behind it the number in ten decimal digits, with zeros in front. The number is how many children
+/// were ever made under the parent before this one.
+#[tactic(auto, unfolding(crate::specs::Sequenced::sequenced))]
+pub fn sequence_name(alloc: Global, path: &str, created: u32) -> Result<Text, NoMemory>
+    ensures name { IfOk result (λ name. name ≡ sequenced path.now created) }
+    ensures ten { IfOk result (λ name. length name ≡ length path.now + 10) }
+{
+    Ok(Text::from_string(format!(in alloc; "{path}{created:010}")?))
 }
 
 // What stands before a slash at this place, or the root where that is nothing.

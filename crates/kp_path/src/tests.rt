@@ -1,4 +1,4 @@
-use crate::{BadPath, check, name, parent};
+use crate::{BadPath, check, name, parent, sequence_name};
 
 const GOOD: [&str; 6] = ["/", "/a", "/a/b", "/a.b/...", "/.a", "/é"];
 
@@ -24,4 +24,19 @@ fn parents_and_names(rt: HostRuntime) {
     assert_eq!(rt; parent("/a/b"), Some("/a"));
     assert_eq!(rt; name("/a/bc"), "bc");
     assert_eq!(rt; name("/"), "");
+}
+
+#[test]
+fn a_running_number_has_ten_digits(rt: HostRuntime) {
+    let expected = [
+        ("/a", 0, "/a0000000000"),
+        ("/a/", 7, "/a/0000000007"),
+        ("/", 1, "/0000000001"),
+        ("/é", 2147483647, "/é2147483647"),
+        ("", 4294967295, "4294967295"),
+    ];
+    for (path, created, name) in expected {
+        let made = sequence_name(rt.alloc(), path, created).expect(&rt, "memory");
+        assert_eq!(rt; made.as_str(), name);
+    }
 }

@@ -1,4 +1,4 @@
-use Rattle.std.proofs.Common.{◌≡◌, ℕ, ◌-◌, ◌+◌, List, None, length, take, sym, ap, ◌∙◌, arith, refl}
+use Rattle.std.proofs.Common.{◌≡◌, ℕ, ◌-◌, ◌+◌, List, None, take, sym, ap, ◌∙◌, arith}
 use Rattle.kp_model.specs.Path.{last_slash}
 use Rattle.kp_path.proofs.Slashes.{at_slash, past_other}
 use Rattle.kp_path.proofs.last_slash.Goals as goal

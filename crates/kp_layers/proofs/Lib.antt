@@ -2,3 +2,5 @@ pub mod Overlaid
 pub mod Chained
 pub mod Cuts
 pub mod Latest
+pub mod Used
+pub mod Listed

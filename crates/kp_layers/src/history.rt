@@ -5,11 +5,24 @@ ghost use Rattle.std.specs.Option.{option_copied};
 ghost use Rattle.std.specs.HashMap.{get, IsUnchanged};
 ghost use Rattle.kp_layers.specs.Chains.{committed_in, newest_in, holds, ChangesNewest, ChangesCommitted, Removes, Renumbers, Commits};
 ghost use Rattle.kp_layers.specs.Overlay.{put, overlay, newest_of, commit_first, empty_past};
+ghost use Rattle.std.specs.List.{IsDistinct, list_any};
+ghost use Rattle.std.specs.Ordering.{nat_cmp};
+ghost use Rattle.kp_layers.specs.Listed.{Lists, at_level};
+ghost use Rattle.kp_layers.specs.Used.{is_known};
 
 use crate::NoMemory;
 use std::alloc::{AllocError, Global};
 use std::collections::{HashMap, VecDeque};
 use std::marker::Model;
+
+/// Which of its writes a map is seen under.
+#[derive(Clone, Copy, PartialEq, Eq, Debug)]
+pub enum Level {
+    /// None: the base map.
+    Committed,
+    /// All of them.
+    Latest,
+}
 
 /// What is known of one key: its value in the base map, and the number of its newest write.
 #[derive(Drop)]
@@ -148,6 +161,14 @@ fn commit_cell<V: Drop>(cells: &mut HashMap<u64, Cell<V>>, key: u64, value: Opti
     }
 }
 
+// The keys in their order.
+fn in_order(mut keys: Vec<u64>) -> Vec<u64>
+    ensures { IsDistinct nat_eq keys.items → Lists nat_cmp (λ q. list_any (nat_eq q) keys.items) result.items }
+{
+    keys.sort_unstable();
+    keys
+}
+
 impl<V> History<V> {
     /// An empty map with no writes.
     pub fn new(alloc: Global) -> Self
@@ -165,6 +186,13 @@ impl<V> History<V> {
         ensures { result ≡ length self.now.writes }
     {
         self.log.len()
+    }
+
+    /// Whether the key has a value in the base map or a write.
+    pub fn is_known(&self, key: u64) -> bool
+        ensures { result ≡ is_known self.now key }
+    {
+        self.cells.contains_key(&key)
     }
 
     /// The value of the key in the base map.
@@ -192,6 +220,37 @@ impl<V> History<V> {
             }
             None => None,
         }
+    }
+
+    // The value of the key at the level.
+    fn value(&self, level: Level, key: u64) -> Option<&V>
+        ensures { option_copied result ≡ map.get (at_level level self.now) key }
+    {
+        match level {
+            Level::Committed => self.committed(key),
+            Level::Latest => self.latest(key),
+        }
+    }
+
+    // Whether the key has a value at the level.
+    fn has(&self, level: Level, key: u64) -> bool
+        ensures { result ≡ map.contains_key (at_level level self.now) key }
+    {
+        self.value(level, key).is_some()
+    }
+
+    /// The keys that have a value at the level, ascending. Costs the cells and the sorting of the
+    /// keys.
+    pub fn keys(&self, alloc: Global, level: Level) -> Result<Vec<u64>, NoMemory>
+        ensures { IfOk result (λ ks. ks.items ≡ map.keys (at_level level self.now)) }
+    {
+        let mut keys = Vec::new(alloc);
+        for key in self.cells.keys() {
+            if self.has(level, *key) {
+                keys.push(*key)?;
+            }
+        }
+        Ok(in_order(keys))
     }
 }
 

@@ -3,9 +3,10 @@ ghost use Rattle.std.specs.Prelude.{◌≡◌, ℕ, ◌<◌, ◌↔◌, length, 
 ghost use Rattle.std.specs.FinMap as map;
 ghost use Rattle.std.specs.Option.{option_copied};
 ghost use Rattle.kp_layers.specs.Layering.{latest_of, staged_of, empty_layering, begun, written, undone, sealed, abandoned, front_committed, back_dropped};
+ghost use Rattle.kp_layers.specs.Used.{is_used};
 
 use crate::NoMemory;
-use crate::history::History;
+use crate::history::{History, Level};
 use std::alloc::{AllocError, Global};
 use std::collections::VecDeque;
 use std::marker::Model;
@@ -79,6 +80,14 @@ impl<V> Layers<V> {
         self.pending.unwrap()
     }
 
+    /// Whether the key has a value in the base map or a write in a layer, the open one included.
+    /// Which keys that are, the laws of this crate say after each change.
+    pub fn is_used(&self, key: u64) -> bool
+        ensures { result ≡ is_used self.now key }
+    {
+        self.history.is_known(key)
+    }
+
     /// The value of the key in the base map, below all layers.
     pub fn committed(&self, key: u64) -> Option<&V>
         ensures { option_copied result ≡ map.get self.now.base key }
@@ -91,6 +100,21 @@ impl<V> Layers<V> {
         ensures { option_copied result ≡ map.get (latest_of self.now) key }
     {
         self.history.latest(key)
+    }
+
+    /// The keys of the base map, ascending. Costs the keys in use and their sorting.
+    pub fn committed_keys(&self, alloc: Global) -> Result<Vec<u64>, NoMemory>
+        ensures { IfOk result (λ ks. ks.items ≡ map.keys self.now.base) }
+    {
+        self.history.keys(alloc, Level::Committed)
+    }
+
+    /// The keys that have a value under all layers, ascending. Costs the keys in use and their
+    /// sorting.
+    pub fn latest_keys(&self, alloc: Global) -> Result<Vec<u64>, NoMemory>
+        ensures { IfOk result (λ ks. ks.items ≡ map.keys (latest_of self.now)) }
+    {
+        self.history.keys(alloc, Level::Latest)
     }
 }
 

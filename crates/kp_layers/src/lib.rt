@@ -3,6 +3,7 @@
 #![tactic(auto)]
 
 pub mod history;
+pub mod laws;
 pub mod layers;
 
 pub use layers::Layers;

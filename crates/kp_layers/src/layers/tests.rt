@@ -31,12 +31,23 @@ fn two_layers_come_and_go(rt: HostRuntime) -> Result<(), Fail> {
     assert_eq!(rt; layers.latest(8).copied(), Some(80));
     assert_eq!(rt; layers.latest(9).copied(), Some(90));
     assert_eq!(rt; layers.committed(9).copied(), None);
+    assert_eq!(rt;
+        layers.latest_keys(rt.alloc())?.as_slice(),
+        [8, 9].as_slice()
+    );
+    assert!(rt; layers.committed_keys(rt.alloc())?.is_empty());
     assert!(rt; layers.commit_front());
     assert_eq!(rt; layers.committed(7).copied(), Some(70));
+    assert_eq!(rt;
+        layers.committed_keys(rt.alloc())?.as_slice(),
+        [7, 9].as_slice()
+    );
+    assert!(rt; layers.is_used(8));
     assert_eq!(rt; layers.latest(7).copied(), None);
     assert!(rt; layers.drop_back());
     assert_eq!(rt; layers.latest(7).copied(), Some(70));
     assert_eq!(rt; layers.latest(8).copied(), None);
+    assert!(rt; !layers.is_used(8));
     assert!(rt; !layers.drop_back());
     assert!(rt; !layers.commit_front());
     Ok(())

@@ -16,8 +16,11 @@ use Rattle.kp_model.proofs.GoodEmpty.{empty_sound}
 use Rattle.kp_model.proofs.GoodSteps.{apply_sound, after_sound}
 use Rattle.kp_cells.specs.Parts.{Parts, parts_of, whole, FitTogether}
 use Rattle.kp_cells.specs.Overlays.{Overlays, depth, committed_parts, latest_parts, committed_state, latest_state, parts_under, applied_after, root_parts, settled, all_begun, all_sealed, all_committed, all_dropped}
-use Rattle.kp_storage.specs.Built.{IsTaken}
+use Rattle.kp_model.specs.Built.{IsTaken}
 use Rattle.kp_storage.specs.Kept.{answers_of, HasLayers, IsLayered, StandsFor, Keeps, store}
+use Rattle.kp_model.specs.Touched.{touched}
+use Rattle.kp_prep.specs.Touching.{AreWithin, staged_keys}
+use Rattle.kp_storage.proofs.LayerKeys.{touches_none, touches_front, touches_back, touches_more}
 use Rattle.kp_storage.proofs.Replay.{after_append, answers_append, answers_take, length-answers}
 use Rattle.kp_storage.proofs.Whole.{whole_is, fit_together}
 use Rattle.kp_storage.proofs.Root.{parts_empty}
@@ -52,6 +55,7 @@ keeps_none = record {
     next = record { sealed = refl; closed = refl };
   };
   stands = λ k le. let none : k ≡ 0 = omega (arith, le) in subst (λ n. parts_under n (settled 0 root_parts) ≡ parts_of (after (committed_state (settled 0 root_parts)) (take n []))) (sym none) (parts_empty _ refl ∙ ap parts_of (sym settled_is));
+  touches = touches_none (settled 0 root_parts);
   answered = refl;
 }
 
@@ -107,7 +111,7 @@ module _ (o : Overlays) (es : List LogEntry) (answers : List Committed) (h : Kee
 
   -- the layer of one entry more is sealed
   module _ (p : Overlays) (e : LogEntry) (i : ℕ) (out : Outcome) (on : all_begun p ≡ all_begun o) (same_out : out ≡ apply (latest_state (all_begun o)) e) (stands : latest_parts p ≡ parts_of out.state)
-      (index : i ≡ o.applied + length es + 1) (lt : o.applied + length es < 4611686018427387904) (takes : IsTaken e) where
+      (index : i ≡ o.applied + length es + 1) (lt : o.applied + length es < 4611686018427387904) (takes : IsTaken e) (within : AreWithin (touched (latest_state (all_begun o)) e) (staged_keys p)) where
     pub sealed_state : committed_state (all_sealed p) ≡ s
     sealed_state = ap committed_state on
 
@@ -151,6 +155,7 @@ module _ (o : Overlays) (es : List LogEntry) (answers : List Committed) (h : Kee
       taken = All-append IsTaken es (e ∷ []) h.taken one_taken;
       layered = subst (λ n. IsLayered n (all_sealed p)) (sym more) (sealed_layered o p (length es) h.layered on);
       stands = λ k le. ⊎_elim (before k) (λ (is : k ≡ length es + 1). subst (λ n. parts_under n (all_sealed p) ≡ parts_of (after (committed_state (all_sealed p)) (take n (es ++ e ∷ [])))) (sym is) last) (each k (omega (arith, le, more)));
+      touches = touches_more o p es e h.layered on sealed_state h.touches (subst (λ (x : State). AreWithin (touched x e) (staged_keys p)) begun_state_is within);
       answered = ap (λ cs. cs ++ committed_as i out ∷ []) h.answered
           ∙ ap (λ (x : Outcome). answers_of s es ++ committed_as i x ∷ []) out_is
           ∙ sym (answers_append s es e i (omega (arith, index, applied_is o)))
@@ -174,6 +179,7 @@ module _ (o : Overlays) (es : List LogEntry) (answers : List Committed) (h : Kee
         parts_back o (length es) k h.layered within
         ∙ h.stands k (omega (arith, within))
         ∙ ap (λ us. parts_of (after s us)) (sym (take-take k (length es - 1) es within));
+    touches = touches_back o es h.layered h.touches;
     answered = ap (take (length es - 1)) h.answered ∙ answers_take (length es - 1) s es;
   } where
     less : length (take (length es - 1) es) ≡ length es - 1
@@ -207,6 +213,7 @@ module _ (o : Overlays) (e : LogEntry) (es : List LogEntry) (answers : List Comm
     taken = All-drop IsTaken 1 (e ∷ es) h.taken;
     layered = front_layered o (length es) h.layered;
     stands = λ k le. parts_front o k ∙ h.stands (suc k) (omega (arith, le)) ∙ ap (λ (x : State). parts_of (after x (take k es))) (sym first_state);
+    touches = touches_front o e es first_state h.touches;
     answered = ap (drop 1) h.answered ∙ ap (λ (x : State). answers_of x es) (sym first_state);
   }
 

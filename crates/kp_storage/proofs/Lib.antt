@@ -2,5 +2,6 @@ pub mod Replay
 pub mod Whole
 pub mod Root
 pub mod Parts
+pub mod LayerKeys
 pub mod Keeping
 pub mod Shown

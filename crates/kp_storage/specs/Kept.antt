@@ -1,5 +1,5 @@
 -- What a storage keeps: its layers are the replay of its entries.
-use Rattle.std.specs.Prelude.{◌≡◌, ℕ, ◌+◌, ◌≤◌, ◌^◌, List, [], ◌∷◌, length, take, None, All}
+use Rattle.std.specs.Prelude.{◌≡◌, ℕ, ◌+◌, ◌≤◌, ◌^◌, List, [], ◌∷◌, length, take, slice_get, Some, None, All}
 use Rattle.std.specs.declared.cmp.Ordering.{Ordering}
 use Rattle.kp_layers.specs.Layering.{Layering}
 use Rattle.kp_model.specs.LogEntry.{LogEntry}
@@ -7,10 +7,12 @@ use Rattle.kp_model.specs.State.{State}
 use Rattle.kp_model.specs.Step.{apply}
 use Rattle.kp_model.specs.Store.{Store, after, committed_as}
 use Rattle.kp_model.specs.Good.{IsSound}
+use Rattle.kp_model.specs.Touched.{touched}
 use Rattle.kp_model.specs.declared.reply.Committed.{Committed}
 use Rattle.kp_cells.specs.Parts.{parts_of}
 use Rattle.kp_cells.specs.Overlays.{Overlays, committed_state, parts_under}
-use Rattle.kp_storage.specs.Built.{IsTaken}
+use Rattle.kp_model.specs.Built.{IsTaken}
+use Rattle.kp_prep.specs.Touching.{AreWithin, layer_keys}
 
 -- what the entries are answered, each on the state behind those before it
 unfoldable pub answers_of : State → List LogEntry → List Committed
@@ -36,6 +38,10 @@ pub record IsLayered (n : ℕ) (o : Overlays) : Type 0 where
 abbrev pub StandsFor : Overlays → List LogEntry → Type 0
 StandsFor o es = (k : ℕ) → k ≤ length es → parts_under k o ≡ parts_of (after (committed_state o) (take k es))
 
+-- the layer of each entry writes alone at what the entry touches, on the state behind those before it
+abbrev pub TouchesOnly : Overlays → List LogEntry → Type 0
+TouchesOnly o es = (k : ℕ) (e : LogEntry) → slice_get es k ≡ Some e → AreWithin (touched (after (committed_state o) (take k es)) e) (layer_keys k o)
+
 -- what a storage keeps: a sound committed state, indexes within their limit, entries that it takes, one layer for each of them, and their answers
 pub record Keeps (o : Overlays) (es : List LogEntry) (answers : List Committed) : Type 0 where
   pub sound : IsSound (committed_state o)
@@ -43,6 +49,7 @@ pub record Keeps (o : Overlays) (es : List LogEntry) (answers : List Committed) 
   pub taken : All IsTaken es
   pub layered : IsLayered (length es) o
   pub stands : StandsFor o es
+  pub touches : TouchesOnly o es
   pub answered : answers ≡ answers_of (committed_state o) es
 
 -- the committed state under the entries

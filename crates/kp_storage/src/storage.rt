@@ -1,13 +1,16 @@
-ghost use Rattle.std.specs.Prelude.{◌≡◌, ◌<◌, ◌≤◌, ◌^◌, ◌-◌, IsTrue, length, take, IfOk, OnOk, OnErr};
+ghost use Rattle.std.specs.Prelude.{◌≡◌, ℕ, ◌<◌, ◌≤◌, ◌^◌, ◌-◌, IsTrue, length, take, slice_get, Some, IfOk, OnOk, OnErr};
 ghost use Rattle.std.specs.Option.{option_copied};
 ghost use Rattle.std.specs.FinMap as map;
 ghost use Rattle.kp_model.specs.Good.{IsSound};
 ghost use Rattle.kp_model.specs.Grammar.{is_entry};
 ghost use Rattle.kp_model.specs.State.{meta_at, bytes_at};
-ghost use Rattle.kp_model.specs.Store.{latest as latest_of, last as last_of, empty, with_entry, kept as kept_of, truncated, commit_answer, commit_leaves};
+ghost use Rattle.kp_model.specs.LogEntry.{LogEntry};
+ghost use Rattle.kp_model.specs.Touched.{touched};
+ghost use Rattle.kp_model.specs.Store.{after, latest as latest_of, last as last_of, empty, with_entry, kept as kept_of, truncated, commit_answer, commit_leaves};
 ghost use Rattle.kp_cells.specs.Parts.{parts_of};
 ghost use Rattle.kp_cells.specs.Overlays.{IsClosed, depth, committed_parts, latest_parts, committed_state, latest_state};
-ghost use Rattle.kp_storage.specs.Built.{is_built};
+ghost use Rattle.kp_model.specs.Built.{is_built};
+ghost use Rattle.kp_prep.specs.Touching.{AreWithin, layer_keys};
 
 use kp_cells::{Cells, CommittedView, LatestView};
 use kp_model::{Committed, Entry, Meta, NoMemory, Reply, Session};
@@ -236,7 +239,8 @@ impl Storage {
         self.cells.committed()
     }
 
-    /// Lends the tree and the sessions with their layers: one for each unapplied entry, and none open.
+    /// Lends the tree and the sessions with their layers: one for each unapplied entry, and none open. The
+    /// layer of an entry writes at the paths and the sessions that the entry touches, and at no others.
     pub fn cells(&self) -> &Cells
         ensures closed { IsClosed result.now }
         ensures depth { depth result.now ≡ length self.now.unapplied }
@@ -244,6 +248,7 @@ impl Storage {
         ensures latest { latest_state result.now ≡ latest_of self.now }
         ensures committed_parts { committed_parts result.now ≡ parts_of self.now.state }
         ensures latest_parts { latest_parts result.now ≡ parts_of (latest_of self.now) }
+        ensures touches { (k : ℕ) (e : LogEntry) → slice_get self.now.unapplied k ≡ Some e → AreWithin (touched (after self.now.state (take k self.now.unapplied)) e) (layer_keys k result.now) }
     {
         &self.cells
     }

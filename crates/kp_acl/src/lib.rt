@@ -1,4 +1,5 @@
-//! Access lists: whether a list gives a right to one who has shown some ids.
+//! Access lists: whether a list gives a right to one who has shown some ids, which lists may be given, and the
+//! ids of those who show a user and a password.
 #![tactic(auto)]
 
 ghost use Rattle.std.specs.Prelude.{◌≡◌};
@@ -6,6 +7,13 @@ ghost use Rattle.std.specs.List.{list_any};
 ghost use Rattle.std.specs.Str.{bytes_eq};
 ghost use Rattle.kp_model.specs.Rights as rights;
 
+mod digest;
+mod errors;
+mod given;
+
+pub use digest::digest_id;
+pub use errors::AclFail;
+pub use given::fix;
 use kp_model::{Acl, Paths};
 
 /// Whether some line of the list gives one of the rights `perm` to one who has shown these ids. A line is

@@ -1,0 +1,3 @@
+pub mod Colon
+pub mod Fixed
+pub mod Digest

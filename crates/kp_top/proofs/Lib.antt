@@ -4,9 +4,12 @@ mod LineWords
 mod Streams
 mod Spelled
 mod Paces
+mod Looks
 mod Runs
 mod Parted
 mod Visible
 mod Hexadecimal
+mod Versions
+mod NameTexts
 mod LinesRead
 mod LinesSpelled

@@ -7,16 +7,17 @@ use Rattle.std.proofs.lemmas.Fmt.{decimal_digit}
 use Rattle.std.proofs.lemmas.Bool.Decides.{nat_tests}
 use Rattle.hex.specs.Hex.{encode_lower, encode_with}
 use Rattle.kp_model.specs.Grammar.{is_number, is_timeout}
-use Rattle.kp_top.specs.Words.{is_empty, number_of, data_of, passwd_of, path_of}
-use Rattle.kp_top.specs.Lines.{◌>>=◌, limit, at_least, one_word, two_words, open_line, three_words, create_line, five_words, line_of}
-use Rattle.kp_top.specs.Spelling.{is_word, are_bytes, is_line, spelled, spelled_data}
+use Rattle.kp_top.specs.Words.{is_empty, number_of, version_of, data_of, passwd_of, path_of}
+use Rattle.kp_top.specs.Lines.{◌>>=◌, limit, at_least, one_word, look_at, two_words, open_line, three_words, versioned, four_words, create_line, set_line, five_words, line_of}
+use Rattle.kp_top.specs.Spelling.{is_word, are_bytes, is_asked, is_line, spelled, spelled_data, spelled_version}
 use Rattle.kp_top.specs.declared.line.StoreLine.{StoreLine}
-use Rattle.kp_top.specs.declared.line.StoreLine.TheVariants.{Time, Open, Noop, Create, Commit, Truncate, Peek, See}
+use Rattle.kp_top.specs.declared.line.StoreLine.TheVariants.{Time, Open, Noop, Create, Delete, Set, Check, Commit, Truncate, Peek, See, Kids, Ls}
 use Rattle.kp_top.proofs.Numerals.{left, right}
 use Rattle.kp_top.proofs.Spelled.{both, spelled_is_read}
 use Rattle.kp_top.proofs.Parted.{is_part, joined_line}
 use Rattle.kp_top.proofs.Visible.{visible_part, decimal_part}
 use Rattle.kp_top.proofs.Hexadecimal.{hex_word, data_word, data_is_read, passwd_is_read}
+use Rattle.kp_top.proofs.Versions.{version_is_read, version_word}
 use lib.Chars.{codes}
 
 number_small : (n : ℕ) → is_number n ≡ true → n ≤ limit
@@ -64,15 +65,25 @@ unfolding two_words
 truncate_spelled k h =
     pair_line (codes "truncate") (decimal k) (visible_part (codes "truncate") refl) (number_part k h) ∙ ap (λ o. o >>= λ n. Some (Truncate n)) (number_read k h)
 
+-- a look at a path is read where its word is one of those
+look_spelled : (w p : List ℕ) (l : StoreLine) → is_part w ≡ true → is_word p ≡ true → two_words w p ≡ (path_of p >>= λ q. look_at w q) → look_at w p ≡ Some l → line_of (w ++ 32 ∷ p) ≡ Some l
+look_spelled w p l lead h two look = pair_line w p lead (path_part p h) ∙ two ∙ ap (λ o. o >>= λ q. look_at w q) (path_read p h) ∙ look
+
 peek_spelled : (p : List ℕ) → is_word p ≡ true → line_of (codes "peek " ++ p) ≡ Some (Peek p)
-unfolding two_words
-peek_spelled p h =
-    pair_line (codes "peek") p (visible_part (codes "peek") refl) (path_part p h) ∙ ap (λ o. o >>= λ q. Some (Peek q)) (path_read p h)
+unfolding two_words look_at
+peek_spelled p h = look_spelled (codes "peek") p (Peek p) (visible_part (codes "peek") refl) h refl refl
 
 see_spelled : (p : List ℕ) → is_word p ≡ true → line_of (codes "see " ++ p) ≡ Some (See p)
-unfolding two_words
-see_spelled p h =
-    pair_line (codes "see") p (visible_part (codes "see") refl) (path_part p h) ∙ ap (λ o. o >>= λ q. Some (See q)) (path_read p h)
+unfolding two_words look_at
+see_spelled p h = look_spelled (codes "see") p (See p) (visible_part (codes "see") refl) h refl refl
+
+kids_spelled : (p : List ℕ) → is_word p ≡ true → line_of (codes "kids " ++ p) ≡ Some (Kids p)
+unfolding two_words look_at
+kids_spelled p h = look_spelled (codes "kids") p (Kids p) (visible_part (codes "kids") refl) h refl refl
+
+ls_spelled : (p : List ℕ) → is_word p ≡ true → line_of (codes "ls " ++ p) ≡ Some (Ls p)
+unfolding two_words look_at
+ls_spelled p h = look_spelled (codes "ls") p (Ls p) (visible_part (codes "ls") refl) h refl refl
 
 timeout_read : (n : ℕ) → is_timeout n ≡ true → number_of 100000 (decimal n) ≡ Some n
 timeout_read n h =
@@ -99,6 +110,37 @@ open_spelled timeout passwd t p =
     let parts = before (decimal timeout) (encode_lower passwd ∷ []) (timeout_part timeout t) (alone (encode_lower passwd) (hex_word passwd (left (are_bytes passwd) (eqb (length passwd) 16) p))) in
     joined_line (codes "open") ws (before (codes "open") ws (visible_part (codes "open") refl) parts) ∙ open_words timeout passwd t p
 
+four_read : (w : List ℕ) (session : ℕ) (path : List ℕ) (version : ℕ) → is_number session ≡ true → is_word path ≡ true → is_asked version ≡ true
+    → four_words w (decimal session) path (spelled_version version) ≡ versioned w session path version
+unfolding four_words
+four_read w session path version s p v =
+    ap (λ o. o >>= λ n. path_of path >>= λ q. version_of (spelled_version version) >>= λ k. versioned w n q k) (number_read session s)
+    ∙ ap (λ o. o >>= λ q. version_of (spelled_version version) >>= λ k. versioned w session q k) (path_read path p)
+    ∙ ap (λ o. o >>= λ k. versioned w session path k) (version_is_read version v)
+
+-- a line of four words is read as the write that its first word names
+four_spelled : (w : List ℕ) (session : ℕ) (path : List ℕ) (version : ℕ) → is_part w ≡ true → (is_number session && (is_word path && is_asked version)) ≡ true
+    → line_of (w ++ 32 ∷ (decimal session ++ 32 ∷ (path ++ 32 ∷ spelled_version version))) ≡ versioned w session path version
+four_spelled w session path version lead h =
+    let s = left (is_number session) (is_word path && is_asked version) h in
+    let rest = right (is_number session) (is_word path && is_asked version) h in
+    let p = left (is_word path) (is_asked version) rest in
+    let v = right (is_word path) (is_asked version) rest in
+    let path_parts = before path (spelled_version version ∷ []) (path_part path p) (alone (spelled_version version) (version_word version v)) in
+    let ws = decimal session ∷ path ∷ spelled_version version ∷ [] in
+    let parts = before (decimal session) (path ∷ spelled_version version ∷ []) (number_part session s) path_parts in
+    joined_line w ws (before w ws lead parts) ∙ four_read w session path version s p v
+
+delete_spelled : (session : ℕ) (path : List ℕ) (version : ℕ) → (is_number session && (is_word path && is_asked version)) ≡ true
+    → line_of (codes "delete " ++ (decimal session ++ (codes " " ++ (path ++ (codes " " ++ spelled_version version))))) ≡ Some (Delete session path version)
+unfolding versioned
+delete_spelled session path version h = four_spelled (codes "delete") session path version (visible_part (codes "delete") refl) h
+
+check_spelled : (session : ℕ) (path : List ℕ) (version : ℕ) → (is_number session && (is_word path && is_asked version)) ≡ true
+    → line_of (codes "check " ++ (decimal session ++ (codes " " ++ (path ++ (codes " " ++ spelled_version version))))) ≡ Some (Check session path version)
+unfolding versioned
+check_spelled session path version h = four_spelled (codes "check") session path version (visible_part (codes "check") refl) h
+
 create_words : (session : ℕ) (path bytes : List ℕ) → is_number session ≡ true → is_word path ≡ true → are_bytes bytes ≡ true → create_line (decimal session) path (spelled_data bytes) ≡ Some (Create session path bytes)
 unfolding create_line
 create_words session path bytes s p b =
@@ -116,6 +158,26 @@ create_spelled session path bytes s p b =
     let parts = before (decimal session) (path ∷ codes "0" ∷ spelled_data bytes ∷ []) (number_part session s) path_parts in
     joined_line (codes "create") ws (before (codes "create") ws (visible_part (codes "create") refl) parts) ∙ create_words session path bytes s p b
 
+set_words : (session : ℕ) (path bytes : List ℕ) (version : ℕ) → is_number session ≡ true → is_word path ≡ true → are_bytes bytes ≡ true → is_asked version ≡ true
+    → set_line (decimal session) path (spelled_data bytes) (spelled_version version) ≡ Some (Set session path bytes version)
+unfolding set_line
+set_words session path bytes version s p b v =
+    ap (λ o. o >>= λ n. path_of path >>= λ q. data_of (spelled_data bytes) >>= λ d. version_of (spelled_version version) >>= λ k. Some (Set n q d k)) (number_read session s)
+    ∙ ap (λ o. o >>= λ q. data_of (spelled_data bytes) >>= λ d. version_of (spelled_version version) >>= λ k. Some (Set session q d k)) (path_read path p)
+    ∙ ap (λ o. o >>= λ d. version_of (spelled_version version) >>= λ k. Some (Set session path d k)) (data_is_read bytes b)
+    ∙ ap (λ o. o >>= λ k. Some (Set session path bytes k)) (version_is_read version v)
+
+set_spelled : (session : ℕ) (path bytes : List ℕ) (version : ℕ) → is_number session ≡ true → is_word path ≡ true → are_bytes bytes ≡ true → is_asked version ≡ true
+    → line_of (codes "set " ++ (decimal session ++ (codes " " ++ (path ++ (codes " " ++ (spelled_data bytes ++ (codes " " ++ spelled_version version))))))) ≡ Some (Set session path bytes version)
+unfolding five_words
+set_spelled session path bytes version s p b v =
+    let version_parts = alone (spelled_version version) (version_word version v) in
+    let data_parts = before (spelled_data bytes) (spelled_version version ∷ []) (data_word bytes b) version_parts in
+    let path_parts = before path (spelled_data bytes ∷ spelled_version version ∷ []) (path_part path p) data_parts in
+    let ws = decimal session ∷ path ∷ spelled_data bytes ∷ spelled_version version ∷ [] in
+    let parts = before (decimal session) (path ∷ spelled_data bytes ∷ spelled_version version ∷ []) (number_part session s) path_parts in
+    joined_line (codes "set") ws (before (codes "set") ws (visible_part (codes "set") refl) parts) ∙ set_words session path bytes version s p b v
+
 pub spelling_is_read : (l : StoreLine) → IsTrue (is_line l) → line_of (spelled l) ≡ Some l
 unfolding spelled
 spelling_is_read (Time t) h = time_spelled t h
@@ -126,10 +188,19 @@ spelling_is_read Noop h = noop_spelled
 spelling_is_read (Create session path bytes) h =
     let rest = right (is_number session) (is_word path && are_bytes bytes) h in
     create_spelled session path bytes (left (is_number session) (is_word path && are_bytes bytes) h) (left (is_word path) (are_bytes bytes) rest) (right (is_word path) (are_bytes bytes) rest)
+spelling_is_read (Delete session path version) h = delete_spelled session path version h
+spelling_is_read (Set session path bytes version) h =
+    let tail = are_bytes bytes && is_asked version in
+    let rest = right (is_number session) (is_word path && tail) h in
+    let last = right (is_word path) tail rest in
+    set_spelled session path bytes version (left (is_number session) (is_word path && tail) h) (left (is_word path) tail rest) (left (are_bytes bytes) (is_asked version) last) (right (are_bytes bytes) (is_asked version) last)
+spelling_is_read (Check session path version) h = check_spelled session path version h
 spelling_is_read Commit h = commit_spelled
 spelling_is_read (Truncate k) h = truncate_spelled k h
 spelling_is_read (Peek path) h = peek_spelled path h
 spelling_is_read (See path) h = see_spelled path h
+spelling_is_read (Kids path) h = kids_spelled path h
+spelling_is_read (Ls path) h = ls_spelled path h
 
 -- a worked line
 worked : spelled (Create 7 (codes "/a") (104 ∷ 105 ∷ [])) ≡ codes "create 7 /a 0 6869"

@@ -8,7 +8,7 @@ use Rattle.kp_model.proofs.Applied.{applied-apply}
 use Rattle.kp_model.specs.LogEntry.{LogEntry}
 use Rattle.kp_model.specs.declared.entry.Body.{Body}
 use Rattle.kp_top.specs.declared.line.StoreLine.{StoreLine}
-use Rattle.kp_top.specs.declared.line.StoreLine.TheVariants.{Time, Open, Noop, Create, Commit, Truncate, Peek, See}
+use Rattle.kp_top.specs.declared.line.StoreLine.TheVariants.{Time, Open, Noop, Create, Delete, Set, Check, Commit, Truncate, Peek, See, Kids, Ls}
 use Rattle.kp_top.specs.Lines.{line_of}
 use Rattle.kp_top.specs.Transcript.{Work, blank, transcript, Turn, looks, turn, entered, committed, cut, printed, first_bad}
 use Rattle.kp_top.specs.Run.{printed_line, TakenAs}
@@ -99,10 +99,15 @@ last_turn d n (Time t) = omega arith
 last_turn d n (Open timeout passwd) = enters d _
 last_turn d n Noop = enters d _
 last_turn d n (Create session path bytes) = enters d _
+last_turn d n (Delete session path version) = enters d _
+last_turn d n (Set session path bytes version) = enters d _
+last_turn d n (Check session path version) = enters d _
 last_turn d n Commit = commits d
 last_turn d n (Truncate k) = cuts d k
 last_turn d n (Peek path) = omega arith
 last_turn d n (See path) = omega arith
+last_turn d n (Kids path) = omega arith
+last_turn d n (Ls path) = omega arith
 
 pub blank_last : last blank.store ≡ 0
 unfolding state.empty

@@ -1,5 +1,5 @@
 -- What is printed.
-use Rattle.std.specs.Prelude.{ℕ, List, ◌++◌, Option, Some, None, if◌then◌else◌}
+use Rattle.std.specs.Prelude.{ℕ, List, [], ◌∷◌, ◌++◌, length, Option, Some, None, if◌then◌else◌}
 use Rattle.std.specs.Fmt.{decimal, signed_decimal}
 use Rattle.hex.specs.Hex.{encode_lower}
 use Rattle.kp_model.specs.declared.node.Meta.{Meta}
@@ -43,10 +43,25 @@ reply_text (reply.Stat m) = codes "ok " ++ stat_text m
 reply_text (reply.Multi replies) = codes "ok"
 reply_text (reply.Failed errors) = codes "ok"
 
+-- the data and the numbers of a node, where there are both
+abbrev pub shown : Option (List ℕ) → Option Meta → Option Seen
+shown (Some bytes) (Some meta) = Some (record { bytes = bytes; meta = meta })
+shown _ _ = None
+
 -- a node, or none
 unfoldable pub seen_text : List ℕ → Option Seen → List ℕ
 seen_text word None = word ++ codes " none"
 seen_text word (Some x) = word ++ (codes " " ++ (data_text x.bytes ++ (codes " " ++ stat_text x.meta)))
+
+-- names, each behind a space
+abbrev pub names_text : List (List ℕ) → List ℕ
+names_text [] = []
+names_text (name ∷ names) = codes " " ++ (name ++ names_text names)
+
+-- the names of a node's children behind their number, or none
+unfoldable pub kids_text : List ℕ → Option (List (List ℕ)) → List ℕ
+kids_text word None = word ++ codes " none"
+kids_text word (Some names) = word ++ (codes " " ++ (decimal (length names) ++ names_text names))
 
 -- an entry's index and its kept reply
 unfoldable pub pre_text : ℕ → Option Reply → List ℕ

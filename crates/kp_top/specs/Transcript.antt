@@ -1,5 +1,6 @@
 -- What the lines of a store print.
 use Rattle.std.specs.Prelude.{ℕ, ◌+◌, ◌&&◌, false, nat_le, List, [], ◌∷◌, ◌++◌, Option, Some, None, if◌then◌else◌, refl}
+use Rattle.std.specs.Option.{option_map}
 use Rattle.std.specs.FinMap as map
 use Rattle.std.specs.Coded.{Coded, code_by, coded×, coded_ℕ}
 use Rattle.kp_model.specs.declared.session.Session.{Session}
@@ -7,14 +8,14 @@ use Rattle.kp_model.specs.declared.entry.Body.{Body}
 use Rattle.kp_model.specs.declared.entry.Body.TheVariants as body
 use Rattle.kp_model.specs.declared.command.Cmd.{Cmd}
 use Rattle.kp_model.specs.declared.command.Cmd.TheVariants as cmd
-use Rattle.kp_model.specs.State.{open_acl, seen}
+use Rattle.kp_model.specs.State.{Nodes, open_acl, kids, seen}
 use Rattle.kp_model.specs.Store.{Store, empty, latest, last, with_entry, kept, truncated, commit_answer, commit_leaves}
 use Rattle.kp_model.specs.Codes.{store_code}
 use Rattle.kp_top.specs.declared.line.StoreLine.{StoreLine}
-use Rattle.kp_top.specs.declared.line.StoreLine.TheVariants.{Time, Open, Noop, Create, Commit, Truncate, Peek, See}
+use Rattle.kp_top.specs.declared.line.StoreLine.TheVariants.{Time, Open, Noop, Create, Delete, Set, Check, Commit, Truncate, Peek, See, Kids, Ls}
 use Rattle.kp_top.specs.Words.{lines_of}
 use Rattle.kp_top.specs.Lines.{line_of}
-use Rattle.kp_top.specs.Texts.{seen_text, pre_text, done_text, time_text, cut_text}
+use Rattle.kp_top.specs.Texts.{seen_text, kids_text, pre_text, done_text, time_text, cut_text}
 use lib.Chars.{codes}
 
 -- a store at work: what it holds, and the time that the next entries get
@@ -66,6 +67,10 @@ committed w = record {
   work = record w { store = commit_leaves w.store.state w.store.unapplied };
 }
 
+-- the names of the children of the node at a path, ascending, where there is one
+unfoldable pub kids_at : Nodes → List ℕ → Option (List (List ℕ))
+kids_at nodes path = option_map (λ _. kids nodes path) (map.get nodes path)
+
 -- a truncation, which is refused where the index isn't from the applied one to the last
 unfoldable pub cut : Work → ℕ → Turn
 cut w k = if nat_le w.store.state.applied k && nat_le k (last w.store)
@@ -78,10 +83,15 @@ turn w n (Time t) = record { text = time_text t; work = record w { time = t } }
 turn w n (Open timeout passwd) = entered w (body.OpenSession timeout passwd (record { node = 0; boot = 0; conn = n }))
 turn w n Noop = entered w body.Noop
 turn w n (Create session path bytes) = entered w (write_of w.store session (cmd.Create path bytes open_acl 0 false))
+turn w n (Delete session path version) = entered w (write_of w.store session (cmd.Delete path version))
+turn w n (Set session path bytes version) = entered w (write_of w.store session (cmd.SetData path bytes version))
+turn w n (Check session path version) = entered w (write_of w.store session (cmd.Check path version))
 turn w n Commit = committed w
 turn w n (Truncate k) = cut w k
 turn w n (Peek path) = looks w (seen_text (codes "peek") (seen (latest w.store).nodes path))
 turn w n (See path) = looks w (seen_text (codes "see") (seen w.store.state.nodes path))
+turn w n (Kids path) = looks w (kids_text (codes "kids") (kids_at (latest w.store).nodes path))
+turn w n (Ls path) = looks w (kids_text (codes "ls") (kids_at w.store.state.nodes path))
 
 -- what the lines from the n-th on print, each with a line feed, up to the first that is none
 unfoldable pub printed : Work → ℕ → List (List ℕ) → List ℕ

@@ -61,6 +61,17 @@ of_16 (Some bytes) = if length bytes == 16 then Some bytes else None
 unfoldable pub passwd_of : List ℕ → Option (List ℕ)
 passwd_of word = of_16 (hex_of word)
 
+-- the greatest version, 2 ^ 31 - 1, and the one that matches any: -1 in two's complement of 32 bits
+abbrev pub version_limit : ℕ
+version_limit = 2147483647
+
+abbrev pub any_version : ℕ
+any_version = 4294967295
+
+-- the version that a word is: a number, or `-1` for any
+unfoldable pub version_of : List ℕ → Option ℕ
+version_of word = if bytes_eq word (codes "-1") then Some any_version else number_of version_limit word
+
 -- a path is any word; a word has one character at least
 abbrev pub path_of : List ℕ → Option (List ℕ)
 path_of word = if is_empty word then None else Some word

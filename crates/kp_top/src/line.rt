@@ -1,9 +1,9 @@
-ghost use Rattle.std.specs.Prelude.{◌≡◌, map, IfOk, IfSome, IsTrue};
+ghost use Rattle.std.specs.Prelude.{◌≡◌, ◌≤◌, map, IfOk, IfSome, IsTrue};
 ghost use Rattle.kp_top.specs.Words.{path_of as path_in};
 ghost use Rattle.kp_top.specs.Spelling.{has_line_numbers};
-ghost use Rattle.kp_top.specs.Lines.{one_word as one, two_words as two, three_words as three, five_words as five, of_words as of, line_of, open_line as opens, create_line as creates};
+ghost use Rattle.kp_top.specs.Lines.{one_word as one, two_words as two, three_words as three, four_words as four, five_words as five, of_words as of, line_of, look_at as looks, open_line as opens, versioned as writes, create_line as creates, set_line as sets};
 
-use crate::words::{data_of, first_words, number_of, passwd_of};
+use crate::words::{data_of, first_words, number_of, passwd_of, version_of};
 use kp_model::{Bytes, NoMemory, Text};
 use std::alloc::Global;
 use std::str;
@@ -34,6 +34,26 @@ pub enum StoreLine {
         path: Text,
         bytes: Bytes,
     },
+    /// `delete S PATH VERSION`: removes a node of this version. Version 4,294,967,295 is -1 and matches every
+    /// version, here and below.
+    Delete {
+        session: u64,
+        path: Text,
+        version: u32,
+    },
+    /// `set S PATH DATA VERSION`: sets the data of a node of this version.
+    Set {
+        session: u64,
+        path: Text,
+        bytes: Bytes,
+        version: u32,
+    },
+    /// `check S PATH VERSION`: looks, as a write, whether a node has this version.
+    Check {
+        session: u64,
+        path: Text,
+        version: u32,
+    },
     /// `commit`: applies the first unapplied entry.
     Commit,
     /// `truncate K`: keeps the entries up to index K.
@@ -46,6 +66,14 @@ pub enum StoreLine {
     },
     /// `see PATH`: looks at a node in the committed state.
     See {
+        path: Text,
+    },
+    /// `kids PATH`: lists the children of a node in the uncommitted state.
+    Kids {
+        path: Text,
+    },
+    /// `ls PATH`: lists the children of a node in the committed state.
+    Ls {
         path: Text,
     },
 }
@@ -73,23 +101,29 @@ fn path_of(alloc: Global, word: &str) -> Result<Option<Text>, NoMemory>
     Ok(Some(Text::from_str(alloc, word)?))
 }
 
+#[tactic(auto, unfolding(crate::specs::Lines::look_at))]
+fn look_at(w: &str, path: Text) -> Option<StoreLine>
+    ensures value { result ≡ looks w.now path }
+    ensures numbers { IfSome result (λ l. IsTrue (has_line_numbers l)) }
+{
+    if w == "peek" {
+        Some(StoreLine::Peek { path })
+    } else if w == "see" {
+        Some(StoreLine::See { path })
+    } else if w == "kids" {
+        Some(StoreLine::Kids { path })
+    } else if w == "ls" {
+        Some(StoreLine::Ls { path })
+    } else {
+        None
+    }
+}
+
 #[tactic(auto, unfolding(crate::specs::Lines::two_words))]
 fn two_words(alloc: Global, w: &str, a: &str) -> Result<Option<StoreLine>, NoMemory>
     ensures value { IfOk result (λ o. o ≡ two w.now a.now) }
     ensures numbers { IfOk result (λ o. IfSome o (λ l. IsTrue (has_line_numbers l))) }
 {
-    if w == "peek" {
-        return match path_of(alloc, a)? {
-            None => Ok(None),
-            Some(path) => Ok(Some(StoreLine::Peek { path })),
-        };
-    }
-    if w == "see" {
-        return match path_of(alloc, a)? {
-            None => Ok(None),
-            Some(path) => Ok(Some(StoreLine::See { path })),
-        };
-    }
     if w == "time" {
         return match number_of(LIMIT, a) {
             None => Ok(None),
@@ -102,7 +136,10 @@ fn two_words(alloc: Global, w: &str, a: &str) -> Result<Option<StoreLine>, NoMem
             Some(last) => Ok(Some(StoreLine::Truncate { last })),
         };
     }
-    Ok(None)
+    match path_of(alloc, a)? {
+        None => Ok(None),
+        Some(path) => Ok(look_at(w, path)),
+    }
 }
 
 #[tactic(auto, unfolding(crate::specs::Lines::open_line))]
@@ -157,6 +194,83 @@ fn three_words(alloc: Global, w: &str, a: &str, b: &str) -> Result<Option<StoreL
     open_line(alloc, a, b)
 }
 
+#[tactic(auto, unfolding(crate::specs::Lines::versioned))]
+fn versioned(w: &str, session: u64, path: Text, version: u32) -> Option<StoreLine>
+    requires { session ≤ 4611686018427387904 }
+    ensures value { result ≡ writes w.now session path version }
+    ensures numbers { IfSome result (λ l. IsTrue (has_line_numbers l)) }
+{
+    if w == "delete" {
+        Some(StoreLine::Delete {
+            session,
+            path,
+            version,
+        })
+    } else if w == "check" {
+        Some(StoreLine::Check {
+            session,
+            path,
+            version,
+        })
+    } else {
+        None
+    }
+}
+
+#[tactic(auto, unfolding(crate::specs::Lines::four_words))]
+fn four_words(
+    alloc: Global,
+    w: &str,
+    a: &str,
+    b: &str,
+    c: &str,
+) -> Result<Option<StoreLine>, NoMemory>
+    ensures value { IfOk result (λ o. o ≡ four w.now a.now b.now c.now) }
+    ensures numbers { IfOk result (λ o. IfSome o (λ l. IsTrue (has_line_numbers l))) }
+{
+    let Some(session) = number_of(LIMIT, a) else {
+        return Ok(None);
+    };
+    let Some(path) = path_of(alloc, b)? else {
+        return Ok(None);
+    };
+    match version_of(c) {
+        None => Ok(None),
+        Some(version) => Ok(versioned(w, session, path, version)),
+    }
+}
+
+#[tactic(auto, unfolding(crate::specs::Lines::set_line))]
+fn set_line(
+    alloc: Global,
+    a: &str,
+    b: &str,
+    c: &str,
+    d: &str,
+) -> Result<Option<StoreLine>, NoMemory>
+    ensures value { IfOk result (λ o. o ≡ sets a.now b.now c.now d.now) }
+    ensures numbers { IfOk result (λ o. IfSome o (λ l. IsTrue (has_line_numbers l))) }
+{
+    let Some(session) = number_of(LIMIT, a) else {
+        return Ok(None);
+    };
+    let Some(path) = path_of(alloc, b)? else {
+        return Ok(None);
+    };
+    let Some(bytes) = data_of(alloc, c)? else {
+        return Ok(None);
+    };
+    match version_of(d) {
+        None => Ok(None),
+        Some(version) => Ok(Some(StoreLine::Set {
+            session,
+            path,
+            bytes: Bytes::from_vec(bytes),
+            version,
+        })),
+    }
+}
+
 #[tactic(auto, unfolding(crate::specs::Lines::five_words))]
 fn five_words(
     alloc: Global,
@@ -169,10 +283,13 @@ fn five_words(
     ensures value { IfOk result (λ o. o ≡ five w.now a.now b.now c.now d.now) }
     ensures numbers { IfOk result (λ o. IfSome o (λ l. IsTrue (has_line_numbers l))) }
 {
-    if w != "create" || c != "0" {
-        return Ok(None);
+    if w == "create" && c == "0" {
+        return create_line(alloc, a, b, d);
     }
-    create_line(alloc, a, b, d)
+    if w == "set" {
+        return set_line(alloc, a, b, c, d);
+    }
+    Ok(None)
 }
 
 fn of_words(alloc: Global, words: &[&str]) -> Result<Option<StoreLine>, NoMemory>
@@ -183,6 +300,7 @@ fn of_words(alloc: Global, words: &[&str]) -> Result<Option<StoreLine>, NoMemory
         [w] => Ok(one_word(w)),
         [w, a] => two_words(alloc, w, a),
         [w, a, b] => three_words(alloc, w, a, b),
+        [w, a, b, c] => four_words(alloc, w, a, b, c),
         [w, a, b, c, d] => five_words(alloc, w, a, b, c, d),
         _ => Ok(None),
     }

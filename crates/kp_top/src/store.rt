@@ -27,7 +27,7 @@ fn take_line<W: Sink>(alloc: Global, work: &mut Work, n: u64, text: &[u8], outpu
         Ok(None) => return Taken::Bad,
         Err(_) => return Taken::NoMemory,
     };
-    let mut out = match work.turn(n, &line) {
+    let mut out = match work.turn(n, line) {
         Ok(out) => out,
         Err(_) => return Taken::NoMemory,
     };

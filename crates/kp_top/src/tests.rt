@@ -12,7 +12,7 @@ struct Row {
     status: &'static str,
 }
 
-const ROWS: [Row; 5] = [
+const ROWS: [Row; 11] = [
     Row {
         lines: "open 30000 00000000000000000000000000000000\ncreate 1 /a 0 6869\npeek /a\nsee /a\ncommit\ncommit\nsee /a\n",
         output: "pre 1 ok session=1\npre 2 ok path=/a\npeek 6869 cz=2 mz=2 pz=2 ct=0 mt=0 v=0 cv=0 av=0 own=0 len=2 kids=0\nsee none\ndone 1 ok session=1\ndone 2 ok path=/a\nsee 6869 cz=2 mz=2 pz=2 ct=0 mt=0 v=0 cv=0 av=0 own=0 len=2 kids=0\n",
@@ -36,6 +36,36 @@ const ROWS: [Row; 5] = [
     Row {
         lines: "open 30000 00000000000000000000000000000000\ncommit\ncommit\ntruncate 0\ntruncate 2\ntruncate 1\n",
         output: "pre 1 ok session=1\ndone 1 ok session=1\ndone none\ncut refused\ncut refused\ncut 1\n",
+        status: "0 Done",
+    },
+    Row {
+        lines: "open 30000 00000000000000000000000000000000\ncreate 1 /a 0 -\nset 1 /a 01 -1\nset 1 /a 02 -1\nset 1 /a 03 -1\ntruncate 4\npeek /a\n",
+        output: "pre 1 ok session=1\npre 2 ok path=/a\npre 3 ok cz=2 mz=3 pz=2 ct=0 mt=0 v=1 cv=0 av=0 own=0 len=1 kids=0\npre 4 ok cz=2 mz=4 pz=2 ct=0 mt=0 v=2 cv=0 av=0 own=0 len=1 kids=0\npre 5 ok cz=2 mz=5 pz=2 ct=0 mt=0 v=3 cv=0 av=0 own=0 len=1 kids=0\ncut 4\npeek 02 cz=2 mz=4 pz=2 ct=0 mt=0 v=2 cv=0 av=0 own=0 len=1 kids=0\n",
+        status: "0 Done",
+    },
+    Row {
+        lines: "open 30000 00000000000000000000000000000000\ncreate 1 /a 0 -\nset 1 /a 01 -1\nset 1 /a 02 -1\ncommit\ncommit\ncommit\nsee /a\npeek /a\n",
+        output: "pre 1 ok session=1\npre 2 ok path=/a\npre 3 ok cz=2 mz=3 pz=2 ct=0 mt=0 v=1 cv=0 av=0 own=0 len=1 kids=0\npre 4 ok cz=2 mz=4 pz=2 ct=0 mt=0 v=2 cv=0 av=0 own=0 len=1 kids=0\ndone 1 ok session=1\ndone 2 ok path=/a\ndone 3 ok cz=2 mz=3 pz=2 ct=0 mt=0 v=1 cv=0 av=0 own=0 len=1 kids=0\nsee 01 cz=2 mz=3 pz=2 ct=0 mt=0 v=1 cv=0 av=0 own=0 len=1 kids=0\npeek 02 cz=2 mz=4 pz=2 ct=0 mt=0 v=2 cv=0 av=0 own=0 len=1 kids=0\n",
+        status: "0 Done",
+    },
+    Row {
+        lines: "open 30000 00000000000000000000000000000000\ncreate 1 /p 0 -\ncreate 1 /p/c 0 -\ndelete 1 /p/c -1\ndelete 1 /p -1\ntruncate 3\ndelete 1 /p -1\n",
+        output: "pre 1 ok session=1\npre 2 ok path=/p\npre 3 ok path=/p/c\npre 4 ok\npre 5 ok\ncut 3\npre 4 err=-111\n",
+        status: "0 Done",
+    },
+    Row {
+        lines: "open 30000 00000000000000000000000000000000\ncreate 1 /a 0 -\ncreate 1 /a/y 0 -\ncreate 1 /a/x 0 -\nkids /\nkids /a\nls /a\nkids /a/x\nkids /b\nls /\n",
+        output: "pre 1 ok session=1\npre 2 ok path=/a\npre 3 ok path=/a/y\npre 4 ok path=/a/x\nkids 1 a\nkids 2 x y\nls none\nkids 0\nkids none\nls 0\n",
+        status: "0 Done",
+    },
+    Row {
+        lines: "open 30000 00000000000000000000000000000000\ncreate 1 /a 0 -\ncreate 1 /a/x 0 -\ncheck 1 /a 0\ncheck 1 /a 1\ncheck 1 /none -1\nset 1 /a - 5\ndelete 1 /a 0\ndelete 1 /a/x 2147483647\ndelete 1 /a/x 0\ndelete 2 /a 0\ntime 7\nset 1 /a 6869 0\ncheck 1 /a 1\nkids /a\n",
+        output: "pre 1 ok session=1\npre 2 ok path=/a\npre 3 ok path=/a/x\npre 4 ok\npre 5 err=-103\npre 6 err=-101\npre 7 err=-103\npre 8 err=-111\npre 9 err=-103\npre 10 ok\npre 11 err=-112\ntime 7\npre 12 ok cz=2 mz=12 pz=10 ct=0 mt=7 v=1 cv=2 av=0 own=0 len=2 kids=0\npre 13 ok\nkids 0\n",
+        status: "0 Done",
+    },
+    Row {
+        lines: "open 30000 00000000000000000000000000000000\ncreate 1 /a 0 -\ncreate 1 /a/x 0 -\ncommit\ncommit\ncommit\ndelete 1 /a/x -1\nkids /a\nls /a\nls /\nls /b\n",
+        output: "pre 1 ok session=1\npre 2 ok path=/a\npre 3 ok path=/a/x\ndone 1 ok session=1\ndone 2 ok path=/a\ndone 3 ok path=/a/x\npre 4 ok\nkids 0\nls 1 x\nls 1 a\nls none\n",
         status: "0 Done",
     },
 ];
@@ -74,6 +104,56 @@ fn lines_print_their_transcript(rt: HostRuntime) -> Result<(), Fail> {
             assert_eq!(rt; status.as_str(), row.status, "{}", row.lines);
             assert_eq!(rt; output.bytes(), row.output.as_bytes(), "{}", row.lines);
         }
+    }
+    Ok(())
+}
+
+/// Texts that are no line: a version outside its spelling, words that are missing or too many, a number too large.
+const BAD_LINES: [&str; 32] = [
+    "delete 1 /a",
+    "delete 1 /a -2",
+    "delete 1 /a +1",
+    "delete 1 /a 01",
+    "delete 1 /a -01",
+    "delete 1 /a 2147483648",
+    "delete 1 /a 4294967295",
+    "delete 1 /a -",
+    "delete 1 /a ",
+    "delete 1 /a -1 ",
+    "delete  1 /a -1",
+    "delete 1  -1",
+    "delete 1 /a -1 -1",
+    "delete -1 /a -1",
+    "delete 4611686018427387905 /a -1",
+    "set 1 /a -1",
+    "set 1 /a 0 -1",
+    "set 1 /a AB -1",
+    "set 1 /a  -1",
+    "set 1 /a - -2",
+    "set 1 /a - 2147483648",
+    "set 1 /a - -1 -",
+    "check 1 /a",
+    "check 1 /a --1",
+    "check x /a 1",
+    "check 1 /a - -1",
+    "kids",
+    "kids ",
+    "kids  /a",
+    "kids /a /b",
+    "ls",
+    "LS /",
+];
+
+#[test]
+fn texts_outside_the_grammar_are_bad_lines(rt: HostRuntime) -> Result<(), Fail> {
+    let alloc = rt.alloc();
+    for line in &BAD_LINES {
+        let text = format!(in alloc; "noop\n{line}\nnoop\n")?;
+        let mut input = source(alloc, text.as_str(), 4096)?;
+        let mut output = MemorySink::new(alloc, 4096);
+        let status = end_of(alloc, "store", &mut input, &mut output)?;
+        assert_eq!(rt; status.as_str(), "3 BadLine { n: 2 }", "{line}");
+        assert_eq!(rt; output.bytes(), b"pre 1 ok\n".as_slice(), "{line}");
     }
     Ok(())
 }

@@ -2,7 +2,7 @@ ghost use Rattle.std.specs.Prelude.{◌≡◌, ◌<◌, ◌≤◌, IfSome, map, 
 ghost use Rattle.std.specs.List.{list_all, position};
 ghost use Rattle.std.specs.Option.{option_map};
 ghost use Rattle.std.specs.Char.{is_ascii_digit};
-ghost use Rattle.kp_top.specs.Words.{is_feed, lines_of, words_of, is_numeral as is_numeral_of, number_of as number_in, is_lower_hex, hex_of as hex_in, data_of as data_in, passwd_of as passwd_in, of_16};
+ghost use Rattle.kp_top.specs.Words.{is_feed, lines_of, words_of, is_numeral as is_numeral_of, number_of as number_in, is_lower_hex, hex_of as hex_in, data_of as data_in, passwd_of as passwd_in, of_16, version_of as version_in};
 
 use kp_model::NoMemory;
 use std::alloc::{AllocError, Global};
@@ -58,6 +58,26 @@ pub fn number_of(most: u64, word: &str) -> Option<u64>
     match word.parse::<u64>() {
         Ok(n) => { if n <= most { Some(n) } else { None } }
         Err(_) => None,
+    }
+}
+
+/// The greatest version of a node.
+const VERSION_LIMIT: u64 = 2147483647;
+
+/// The version that matches any: -1 in two's complement.
+const ANY_VERSION: u32 = 4294967295;
+
+/// The version that a word is, where `-1` stands for the one that matches any.
+#[tactic(auto, unfolding(crate::specs::Words::version_of))]
+pub fn version_of(word: &str) -> Option<u32>
+    ensures { result ≡ version_in word.now }
+{
+    if word == "-1" {
+        return Some(ANY_VERSION);
+    }
+    match number_of(VERSION_LIMIT, word) {
+        None => None,
+        Some(version) => Some(version as u32),
     }
 }
 

@@ -1,18 +1,20 @@
-ghost use Rattle.std.specs.Prelude.{◌≡◌, ◌<◌, ◌≤◌, false, IfOk, IsTrue, string_bytes};
+ghost use Rattle.std.specs.Prelude.{◌≡◌, ◌<◌, ◌≤◌, false, IfOk, IsTrue, string_bytes, codes};
 ghost use Rattle.std.specs.FinMap as map;
-ghost use Rattle.kp_model.specs.Grammar.{is_body, has_numbers};
-ghost use Rattle.kp_model.specs.State.{open_acl};
+ghost use Rattle.kp_model.specs.Grammar.{is_body, has_numbers, is_number};
+ghost use Rattle.kp_model.specs.State.{open_acl, seen};
 ghost use Rattle.kp_model.specs.Store.{last as last_of, latest};
 ghost use Rattle.kp_model.specs.declared.command.Cmd.TheVariants as cmd;
-ghost use Rattle.kp_plain.specs.Built.{is_built, is_built_cmd};
+ghost use Rattle.kp_model.specs.declared.entry.Body.TheVariants as body;
+ghost use Rattle.kp_storage.specs.Built.{is_built, is_built_cmd};
 ghost use Rattle.kp_top.specs.Spelling.{has_line_numbers};
-ghost use Rattle.kp_top.specs.Transcript.{blank, turn as turn_of, entered, committed, cut as cut_of, write_of, epoch_of, next_seq_of};
+ghost use Rattle.kp_top.specs.Texts.{seen_text as seen_bytes, kids_text as kids_bytes};
+ghost use Rattle.kp_top.specs.Transcript.{blank, turn as turn_of, entered, committed, cut as cut_of, write_of, epoch_of, next_seq_of, kids_at};
 ghost use Rattle.kp_top.specs.Paced.{IsPaced};
 
 use crate::line::StoreLine;
-use crate::print::{cut_text, done_text, pre_text, seen_text, time_text};
-use kp_model::{Acl, Acls, Body, Bytes, Cmd, Entry, NoMemory, Origin, Text};
-use kp_plain::PlainStore;
+use crate::print::{cut_text, done_text, kids_text, no_kids_text, pre_text, seen_text, time_text};
+use kp_model::{Acl, Acls, Body, Bytes, Cmd, Entry, NoMemory, Origin, Text, View};
+use kp_storage::Storage;
 use std::alloc::Global;
 use std::marker::Model;
 
@@ -20,7 +22,8 @@ use std::marker::Model;
 #[derive(Drop)]
 pub struct Work {
     alloc: Global,
-    store: PlainStore,
+    store: Storage,
+    // the time that the next entries get, in milliseconds
     time: u64,
 }
 
@@ -52,44 +55,58 @@ fn everyone(alloc: Global) -> Result<Acls, NoMemory>
     Ok(acl)
 }
 
+/// The command that a create line makes.
+pub fn create_cmd(alloc: Global, path: Text, bytes: Bytes) -> Result<Cmd, NoMemory>
+    ensures cmd { IfOk result (λ c. c ≡ cmd.Create path bytes open_acl 0 false) }
+    ensures built { IfOk result (λ c. IsTrue (is_built_cmd c)) }
+{
+    Ok(Cmd::Create {
+        path,
+        bytes,
+        acl: everyone(alloc)?,
+        flags: 0,
+        stat: false,
+    })
+}
+
 /// The epoch of a session and its next number in the uncommitted state, or 0 and 0 where there is no such session.
 #[tactic(auto, using(crate::proofs::Paces::paced_latest))]
-fn numbers_of(store: &PlainStore, session: u64) -> Result<(u64, u64), NoMemory>
+fn numbers_of(store: &Storage, session: u64) -> (u64, u64)
     requires room { last_of store.now < 4611686018427387904 }
     requires paced { IsPaced store.now.state }
-    ensures epoch { IfOk result (λ x. x.0 ≡ epoch_of (map.get (latest store.now).sessions session)) }
-    ensures seq { IfOk result (λ x. x.1 ≡ next_seq_of (map.get (latest store.now).sessions session)) }
-    ensures small { IfOk result (λ x. (x.0 ≤ 4611686018427387904) × (x.1 ≤ 4611686018427387904)) }
+    ensures epoch { result.0 ≡ epoch_of (map.get (latest store.now).sessions session) }
+    ensures seq { result.1 ≡ next_seq_of (map.get (latest store.now).sessions session) }
+    ensures small { (result.0 ≤ 4611686018427387904) × (result.1 ≤ 4611686018427387904) }
 {
-    match store.who(session)? {
-        None => Ok((0, 0)),
-        Some(found) => Ok((found.epoch, found.seq + 1)),
+    match store.latest_session(session) {
+        None => (0, 0),
+        Some(found) => (found.epoch, found.seq + 1),
     }
 }
 
 /// A write of a session, with its epoch and its next number.
 #[tactic(auto, unfolding(crate::specs::Transcript::write_of))]
-fn write_body(store: &PlainStore, session: u64, cmd: Cmd) -> Result<Body, NoMemory>
+fn write_body(store: &Storage, session: u64, cmd: Cmd) -> Body
     requires room { last_of store.now < 4611686018427387904 }
     requires paced { IsPaced store.now.state }
-    requires session { session ≤ 4611686018427387904 }
+    requires session { IsTrue (is_number session) }
     requires built { IsTrue (is_built_cmd cmd) }
-    ensures body { IfOk result (λ b. b ≡ write_of store.now session cmd) }
-    ensures numbers { IfOk result (λ b. IsTrue (is_body b)) }
-    ensures built { IfOk result (λ b. IsTrue (is_built b)) }
+    ensures body { result ≡ write_of store.now session cmd }
+    ensures numbers { IsTrue (is_body result) }
+    ensures built { IsTrue (is_built result) }
 {
-    let (epoch, seq) = numbers_of(store, session)?;
-    Ok(Body::Write {
+    let (epoch, seq) = numbers_of(store, session);
+    Body::Write {
         session,
         epoch,
         seq,
         cmd,
-    })
+    }
 }
 
 /// Adds an entry and answers its text.
 #[tactic(auto, unfolding(crate::specs::Transcript::entered))]
-fn enter(alloc: Global, store: &mut PlainStore, time: u64, body: Body) -> Result<String, NoMemory>
+fn enter(alloc: Global, store: &mut Storage, time: u64, body: Body) -> Result<String, NoMemory>
     requires room { last_of store.old < 4611686018427387904 }
     requires numbers { IsTrue (has_numbers 0 time body) }
     requires built { IsTrue (is_built body) }
@@ -99,24 +116,43 @@ fn enter(alloc: Global, store: &mut PlainStore, time: u64, body: Body) -> Result
     let entry = Entry::new(0, time, body)?;
     store.preprocess(&entry)?;
     let last = store.last();
-    let reply = store.kept(last)?;
-    Ok(pre_text(alloc, last, &reply)?)
+    Ok(pre_text(alloc, last, store.kept(last))?)
+}
+
+/// Adds a write of a session and answers its text.
+fn write(
+    alloc: Global,
+    store: &mut Storage,
+    time: u64,
+    session: u64,
+    cmd: Cmd,
+) -> Result<String, NoMemory>
+    requires room { last_of store.old < 4611686018427387904 }
+    requires paced { IsPaced store.old.state }
+    requires time { IsTrue (is_number time) }
+    requires session { IsTrue (is_number session) }
+    requires built { IsTrue (is_built_cmd cmd) }
+    ensures turn { IfOk result (λ s. record { text = string_bytes s; work = record { store = store.new; time = time } } ≡ entered (record { store = store.old; time = time }) (write_of store.old session cmd)) }
+    ensures state { store.new.state ≡ store.old.state }
+{
+    let body = write_body(store, session, cmd);
+    enter(alloc, store, time, body)
 }
 
 /// Applies the first unapplied entry and answers the text.
 #[tactic(auto, unfolding(crate::specs::Transcript::committed), using(crate::proofs::Paces::paced_commit))]
-fn commit(alloc: Global, store: &mut PlainStore, time: u64) -> Result<String, NoMemory>
+fn commit(alloc: Global, store: &mut Storage, time: u64) -> Result<String, NoMemory>
     requires paced { IsPaced store.old.state }
     ensures turn { IfOk result (λ s. record { text = string_bytes s; work = record { store = store.new; time = time } } ≡ committed (record { store = store.old; time = time })) }
     ensures paced { IsPaced store.new.state }
 {
-    let done = store.commit()?;
-    Ok(done_text(alloc, &done)?)
+    let done = store.commit();
+    Ok(done_text(alloc, done.as_ref())?)
 }
 
 /// Truncates and answers the text.
 #[tactic(auto, unfolding(crate::specs::Transcript::cut))]
-fn truncate(alloc: Global, store: &mut PlainStore, time: u64, last: u64) -> Result<String, NoMemory>
+fn truncate(alloc: Global, store: &mut Storage, time: u64, last: u64) -> Result<String, NoMemory>
     ensures turn { IfOk result (λ s. record { text = string_bytes s; work = record { store = store.new; time = time } } ≡ cut_of (record { store = store.old; time = time }) last) }
     ensures state { store.new.state ≡ store.old.state }
 {
@@ -127,18 +163,57 @@ fn truncate(alloc: Global, store: &mut PlainStore, time: u64, last: u64) -> Resu
     Ok(String::from_str(alloc, "cut refused")?)
 }
 
-/// The command that a create line makes.
-fn create_cmd(alloc: Global, path: &Text, bytes: &Bytes) -> Result<Cmd, NoMemory>
-    ensures cmd { IfOk result (λ c. c ≡ cmd.Create path.now bytes.now open_acl 0 false) }
-    ensures built { IfOk result (λ c. IsTrue (is_built_cmd c)) }
+/// What is seen of a node of the uncommitted state.
+#[tactic(auto, using(crate::proofs::Looks::shown_seen))]
+pub fn peek(alloc: Global, store: &Storage, path: &Text) -> Result<String, NoMemory>
+    ensures { IfOk result (λ s. string_bytes s ≡ seen_bytes (codes "peek") (seen (latest store.now).nodes path.now)) }
 {
-    Ok(Cmd::Create {
-        path: path.copy(alloc)?,
-        bytes: bytes.copy(alloc)?,
-        acl: everyone(alloc)?,
-        flags: 0,
-        stat: false,
-    })
+    let path = path.as_str();
+    let (data, meta) = (store.latest_data(path), store.latest_meta(path));
+    Ok(seen_text(alloc, "peek", data, meta)?)
+}
+
+/// What is seen of a node of the committed state.
+#[tactic(auto, using(crate::proofs::Looks::shown_seen))]
+pub fn see(alloc: Global, store: &Storage, path: &Text) -> Result<String, NoMemory>
+    ensures { IfOk result (λ s. string_bytes s ≡ seen_bytes (codes "see") (seen store.now.state.nodes path.now)) }
+{
+    let path = path.as_str();
+    let (data, meta) = (store.committed_data(path), store.committed_meta(path));
+    Ok(seen_text(alloc, "see", data, meta)?)
+}
+
+/// The names of the children of a node of this state, behind the word that asked for them.
+#[tactic(auto, using(crate::proofs::Looks::kids_there, crate::proofs::Looks::kids_nowhere))]
+pub fn children<V: View>(
+    alloc: Global,
+    word: &str,
+    view: &V,
+    path: &Text,
+) -> Result<String, NoMemory>
+    ensures { IfOk result (λ s. string_bytes s ≡ kids_bytes word.now (kids_at (V.state view.now).nodes path.now)) }
+{
+    let path = path.as_str();
+    if view.meta(path).is_none() {
+        return Ok(no_kids_text(alloc, word)?);
+    }
+    let names = view.kids(alloc, path)?;
+    Ok(kids_text(alloc, word, &names)?)
+}
+
+/// The opening of a session by the n-th line.
+fn opening(n: u64, timeout: u32, passwd: [u8; 16]) -> Body
+    ensures { result ≡ body.OpenSession timeout passwd (record { node = 0; boot = 0; conn = n }) }
+{
+    Body::OpenSession {
+        timeout,
+        passwd,
+        origin: Origin {
+            node: 0,
+            boot: 0,
+            conn: n,
+        },
+    }
 }
 
 impl Work {
@@ -148,57 +223,67 @@ impl Work {
     {
         Ok(Work {
             alloc,
-            store: PlainStore::new(alloc)?,
+            store: Storage::new(alloc)?,
             time: 0,
         })
     }
 
     /// Does the n-th line and answers its text, without a line feed. After an `Err` no further line is taken.
     #[tactic(auto, unfolding(crate::specs::Transcript::turn))]
-    pub fn turn(&mut self, n: u64, line: &StoreLine) -> Result<String, NoMemory>
+    pub fn turn(&mut self, n: u64, line: StoreLine) -> Result<String, NoMemory>
         requires room { last_of self.old.store < 4611686018427387904 }
         requires number { n ≤ 4611686018427387904 }
-        requires line { IsTrue (has_line_numbers line.now) }
-        ensures { IfOk result (λ s. record { text = string_bytes s; work = self.new } ≡ turn_of self.old n line.now) }
+        requires line { IsTrue (has_line_numbers line) }
+        ensures { IfOk result (λ s. record { text = string_bytes s; work = self.new } ≡ turn_of self.old n line) }
     {
-        let alloc = self.alloc;
+        let (alloc, time) = (self.alloc, self.time);
+        let store = &mut self.store;
         match line {
             StoreLine::Time { time } => {
-                self.time = *time;
-                Ok(time_text(alloc, *time)?)
+                self.time = time;
+                Ok(time_text(alloc, time)?)
             }
             StoreLine::Open { timeout, passwd } => {
-                let body = Body::OpenSession {
-                    timeout: *timeout,
-                    passwd: *passwd,
-                    origin: Origin {
-                        node: 0,
-                        boot: 0,
-                        conn: n,
-                    },
-                };
-                enter(alloc, &mut self.store, self.time, body)
+                enter(alloc, store, time, opening(n, timeout, passwd))
             }
-            StoreLine::Noop => enter(alloc, &mut self.store, self.time, Body::Noop),
+            StoreLine::Noop => enter(alloc, store, time, Body::Noop),
             StoreLine::Create {
                 session,
                 path,
                 bytes,
             } => {
                 let cmd = create_cmd(alloc, path, bytes)?;
-                let body = write_body(&self.store, *session, cmd)?;
-                enter(alloc, &mut self.store, self.time, body)
+                write(alloc, store, time, session, cmd)
             }
-            StoreLine::Commit => commit(alloc, &mut self.store, self.time),
-            StoreLine::Truncate { last } => truncate(alloc, &mut self.store, self.time, *last),
-            StoreLine::Peek { path } => {
-                let seen = self.store.peek(path.as_str())?;
-                Ok(seen_text(alloc, "peek", &seen)?)
+            StoreLine::Delete {
+                session,
+                path,
+                version,
+            } => write(alloc, store, time, session, Cmd::Delete { path, version }),
+            StoreLine::Set {
+                session,
+                path,
+                bytes,
+                version,
+            } => {
+                let cmd = Cmd::SetData {
+                    path,
+                    bytes,
+                    version,
+                };
+                write(alloc, store, time, session, cmd)
             }
-            StoreLine::See { path } => {
-                let seen = self.store.see(path.as_str())?;
-                Ok(seen_text(alloc, "see", &seen)?)
-            }
+            StoreLine::Check {
+                session,
+                path,
+                version,
+            } => write(alloc, store, time, session, Cmd::Check { path, version }),
+            StoreLine::Commit => commit(alloc, store, time),
+            StoreLine::Truncate { last } => truncate(alloc, store, time, last),
+            StoreLine::Peek { path } => peek(alloc, store, &path),
+            StoreLine::See { path } => see(alloc, store, &path),
+            StoreLine::Kids { path } => children(alloc, "kids", &store.latest(), &path),
+            StoreLine::Ls { path } => children(alloc, "ls", &store.committed(), &path),
         }
     }
 }

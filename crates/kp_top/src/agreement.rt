@@ -2,8 +2,7 @@
 //! drawn by a small generator, go through both, and every text that either prints is compared.
 ghost use Rattle.std.specs.Prelude.{◌<◌, ◌≤◌, IfOk, IsTrue};
 ghost use Rattle.kp_model.specs.Grammar.{is_body};
-ghost use Rattle.kp_storage.specs.Built.{is_built, is_built_cmd};
-ghost use Rattle.kp_plain.specs.Built.{is_built as is_plain_built};
+ghost use Rattle.kp_model.specs.Built.{is_built, is_built_cmd};
 
 use crate::print::{done_text, kids_text, no_kids_text, pre_text, seen_text};
 use crate::work::{children, create_cmd, peek, see};

@@ -5,7 +5,7 @@ ghost use Rattle.kp_model.specs.State.{open_acl, seen};
 ghost use Rattle.kp_model.specs.Store.{last as last_of, latest};
 ghost use Rattle.kp_model.specs.declared.command.Cmd.TheVariants as cmd;
 ghost use Rattle.kp_model.specs.declared.entry.Body.TheVariants as body;
-ghost use Rattle.kp_storage.specs.Built.{is_built, is_built_cmd};
+ghost use Rattle.kp_model.specs.Built.{is_built, is_built_cmd};
 ghost use Rattle.kp_top.specs.Spelling.{has_line_numbers};
 ghost use Rattle.kp_top.specs.Texts.{seen_text as seen_bytes, kids_text as kids_bytes};
 ghost use Rattle.kp_top.specs.Transcript.{blank, turn as turn_of, entered, committed, cut as cut_of, write_of, epoch_of, next_seq_of, kids_at};

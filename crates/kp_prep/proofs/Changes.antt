@@ -1,11 +1,15 @@
 -- The changes of a plan, set in their order.
-use Rattle.std.proofs.Common.{◌≡◌, ℕ, List, [], ◌∷◌, ◌++◌, Option, Some, None, refl, ap, sym, ◌∙◌}
-use Rattle.std.specs.Prelude.{Result, Ok, Err, IfOk}
+use Rattle.std.proofs.Common.{◌≡◌, ℕ, true, ◌&&◌, List, [], ◌∷◌, ◌++◌, length, Option, Some, None, refl, ap, sym, subst, ◌∙◌}
+use Rattle.std.specs.Prelude.{Result, Ok, Err, IfOk, IsTrue}
+use Rattle.std.specs.List.{list_all}
+use Rattle.std.proofs.lemmas.List.Folds.{list_all-append}
 use Rattle.std.specs.FinMap as map
 use Rattle.kp_model.specs.declared.node.Acl.{Acl}
 use Rattle.kp_model.specs.declared.node.Meta.{Meta}
 use Rattle.kp_model.specs.declared.node.Node.{Node}
 use Rattle.kp_model.specs.declared.session.Session.{Session}
+use Rattle.kp_model.specs.Good.{IsGood}
+use Rattle.kp_model.specs.Grammar.{is_length}
 use Rattle.kp_model.specs.Path.{parent}
 use Rattle.kp_model.specs.Poured.{node_of}
 use Rattle.kp_model.specs.State.{State, Nodes, Sessions, bytes_at, acl_at}
@@ -19,8 +23,8 @@ use Rattle.kp_prep.specs.declared.deciding.Decided.{Decided}
 use Rattle.kp_prep.specs.declared.plan.Effect.{Effect}
 use Rattle.kp_prep.specs.declared.plan.Effect.TheVariants as effect
 use Rattle.kp_prep.specs.declared.plan.Plan.{Plan}
-use Rattle.kp_prep.specs.Changing.{set_one, set_all, renumbered_value, refilled_value, node_changes, effect_changes, session_changes, next_changes, plan_changes}
-use Rattle.kp_prep.specs.Effects.{IsPlan, effected, effected_nodes, renewed, next_after}
+use Rattle.kp_prep.specs.Changing.{set_one, set_all, fits_change, renumbered_value, refilled_value, node_changes, effect_changes, session_changes, next_changes, plan_changes}
+use Rattle.kp_prep.specs.Effects.{IsPlan, FitsData, effected, effected_nodes, renewed, next_after}
 use Rattle.kp_prep.proofs.Seen.{absent, present}
 
 -- no list is lent where there is no node
@@ -124,3 +128,39 @@ if_same (Err f) x y e h = tt
 pub decided_sets : {E : Type 0} (r : Result Decided E) (k : Touched) (s : State) (o : Outcome) (p : Plan) → IsPlan k s o p → IfOk r (λ d. d.changes ≡ plan_changes s.nodes p) → IfOk r (λ d. set_all s d.changes ≡ record o.state { applied = s.applied })
 decided_sets (Ok d) k s o p h e = ap (set_all s) e ∙ changes_set k s o p h
 decided_sets (Err f) k s o p h e = tt
+
+all_fit : (a b : List Change) → IsTrue (list_all fits_change a) → IsTrue (list_all fits_change b) → IsTrue (list_all fits_change (a ++ b))
+all_fit a b p q = list_all-append fits_change a b ∙ (λ j. p j && q j)
+
+session_fits : (x : Option (ℕ × Session)) → IsTrue (list_all fits_change (session_changes x))
+session_fits None = refl
+session_fits (Some x) = refl
+
+next_fits : (n : Option ℕ) → IsTrue (list_all fits_change (next_changes n))
+next_fits None = refl
+next_fits (Some n) = refl
+
+-- a node that has other numbers has the data that it had
+renumbered_fits : (s : State) → IsGood s → (q : List ℕ) (m : Meta) → IsTrue (list_all fits_change (node_changes q (renumbered_value m (map.get s.nodes q))))
+renumbered_fits s good q m = cases (map.get s.nodes q) refl where
+  cases : (o : Option Node) → map.get s.nodes q ≡ o → IsTrue (list_all fits_change (node_changes q (renumbered_value m o)))
+  cases None e = refl
+  cases (Some n) e = ap (λ b. b && true) (good.numbers q n e).bytes
+
+refilled_fits : (q bytes : List ℕ) (m : Meta) (o : Option Node) → IsTrue (is_length (length bytes)) → IsTrue (list_all fits_change (node_changes q (refilled_value bytes m o)))
+refilled_fits q bytes m None h = refl
+refilled_fits q bytes m (Some n) h = ap (λ b. b && true) h
+
+effect_fits : (s : State) → IsGood s → (e : Effect) → FitsData e → IsTrue (list_all fits_change (effect_changes s.nodes e))
+effect_fits s good effect.Nothing h = refl
+effect_fits s good (effect.Make path bytes acl meta up) h = all_fit (node_changes (parent path) (renumbered_value up (map.get s.nodes (parent path)))) (change.Node path (Some (record { bytes = bytes; acl = acl; meta = meta })) ∷ []) (renumbered_fits s good (parent path) up) (ap (λ b. b && true) h)
+effect_fits s good (effect.Remove path up owner) h = all_fit (node_changes (parent path) (renumbered_value up (map.get s.nodes (parent path)))) (change.Node path None ∷ []) (renumbered_fits s good (parent path) up) refl
+effect_fits s good (effect.Set path bytes meta) h = refilled_fits path bytes meta (map.get s.nodes path) h
+
+plan_fits : (s : State) → IsGood s → (p : Plan) → FitsData p.effect → IsTrue (list_all fits_change (plan_changes s.nodes p))
+plan_fits s good p h = all_fit (session_changes p.session ++ next_changes p.next) (effect_changes s.nodes p.effect) (all_fit (session_changes p.session) (next_changes p.next) (session_fits p.session) (next_fits p.next)) (effect_fits s good p.effect h)
+
+-- the data of what was decided fits
+pub decided_fits : {E : Type 0} (r : Result Decided E) (s : State) (p : Plan) → IsGood s → FitsData p.effect → IfOk r (λ d. d.changes ≡ plan_changes s.nodes p) → IfOk r (λ d. IsTrue (list_all fits_change d.changes))
+decided_fits (Ok d) s p good h e = subst (λ cs. IsTrue (list_all fits_change cs)) (sym e) (plan_fits s good p h)
+decided_fits (Err f) s p good h e = tt

@@ -1,11 +1,12 @@
 -- Changes that are set in a state, and those of a plan.
-use Rattle.std.specs.Prelude.{ℕ, List, [], ◌∷◌, ◌++◌, Option, Some, None}
+use Rattle.std.specs.Prelude.{ℕ, Bool, true, List, [], ◌∷◌, ◌++◌, length, Option, Some, None}
 use Rattle.std.specs.Option.{option_map}
 use Rattle.std.specs.FinMap as map
 use Rattle.kp_model.specs.declared.node.Acl.{Acl}
 use Rattle.kp_model.specs.declared.node.Meta.{Meta}
 use Rattle.kp_model.specs.declared.node.Node.{Node}
 use Rattle.kp_model.specs.declared.session.Session.{Session}
+use Rattle.kp_model.specs.Grammar.{is_length}
 use Rattle.kp_model.specs.Path.{parent}
 use Rattle.kp_model.specs.Poured.{node_of, with_node, with_session}
 use Rattle.kp_model.specs.State.{State, Nodes}
@@ -36,6 +37,17 @@ set_one s (change.NextSession n) = record s { next = n }
 unfoldable pub set_all : State → List Change → State
 set_all s [] = s
 set_all s (c ∷ cs) = set_all (set_one s c) cs
+
+-- the data of a node that is set fits its length field
+abbrev pub fits_value : Option NodeValue → Bool
+fits_value None = true
+fits_value (Some v) = is_length (length v.bytes)
+
+-- the data of a change fits its length field
+abbrev pub fits_change : Change → Bool
+fits_change (change.Node p v) = fits_value v
+fits_change (change.Session id x) = true
+fits_change (change.NextSession n) = true
 
 -- a node with other numbers, where there is one
 abbrev pub renumbered_value : Meta → Option Node → Option NodeValue

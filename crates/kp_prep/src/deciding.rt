@@ -1,11 +1,12 @@
 //! The changes of an entry, as a list.
 
-ghost use Rattle.std.specs.Prelude.{◌≡◌, ◌+◌, ◌++◌, IfOk, OnOk};
+ghost use Rattle.std.specs.Prelude.{◌≡◌, ◌+◌, ◌++◌, IfOk, OnOk, IsTrue};
+ghost use Rattle.std.specs.List.{list_all};
 ghost use Rattle.std.specs.FinMap as map;
 ghost use Rattle.kp_model.specs.Good.{IsSound};
 ghost use Rattle.kp_model.specs.Path.{parent};
 ghost use Rattle.kp_model.specs.Step.{apply};
-ghost use Rattle.kp_prep.specs.Changing.{set_all, plan_changes, session_changes, next_changes, effect_changes, node_changes, renumbered_value, refilled_value};
+ghost use Rattle.kp_prep.specs.Changing.{set_all, fits_change, plan_changes, session_changes, next_changes, effect_changes, node_changes, renumbered_value, refilled_value};
 ghost use Rattle.kp_prep.specs.Effects.{IsFamily, IsFit};
 
 use crate::entry::plan;
@@ -23,7 +24,8 @@ pub struct Decided {
 }
 
 /// What an entry of this index is answered, and its changes: set in their order, they make of the nodes, the
-/// sessions and the next session number those behind the entry. The view stays as it is.
+/// sessions and the next session number those behind the entry. The data of each node that is set fits its length
+/// field. The view stays as it is.
 pub fn decide<V: View>(
     alloc: Global,
     view: &V,
@@ -35,6 +37,7 @@ pub fn decide<V: View>(
     ensures reply { IfOk result (λ d. d.prepared.reply ≡ (apply (V.state view.now) entry.now).reply) }
     ensures events { IfOk result (λ d. d.prepared.events ≡ (apply (V.state view.now) entry.now).events) }
     ensures changes { let s = V.state view.now in IfOk result (λ d. set_all s d.changes ≡ record (apply s entry.now).state { applied = s.applied }) }
+    ensures fits { IfOk result (λ d. IsTrue (list_all fits_change d.changes)) }
 {
     let found = plan(alloc, view, index, entry)?;
     listed(alloc, view, found)

@@ -10,6 +10,7 @@ use Rattle.kp_model.specs.declared.node.Meta.{Meta}
 use Rattle.kp_model.specs.declared.node.Node.{Node}
 use Rattle.kp_model.specs.declared.reply.Reply.TheVariants as reply
 use Rattle.kp_model.specs.Good.{IsGood}
+use Rattle.kp_model.specs.Grammar.{is_length}
 use Rattle.std.specs.Str.{bytes_eq}
 use Rattle.std.proofs.lemmas.Slice.Eq.{bytes_eq-Decides}
 use Rattle.kp_model.specs.Path.{root, parent, name, is_well_formed}
@@ -60,9 +61,9 @@ one_more i c u =
     let same : min (min c 2147483647 + 1) 2147483647 ≡ min (c + 1) 2147483647 = omega arith in
     ap (λ k. record (meta_of (c + 1) (with_child i u)) { kids = k }) same
 
-pub created_does : (s : State) (ids : List (List ℕ)) (i t : ℕ) (path bytes : List ℕ) (acl : List Acl) (with_stat : Bool) (up : Meta) → IsGood s → MayCreate s.nodes ids path up → IsAct path s (unless (create_fails s.nodes ids path) s (created s i t path bytes acl with_stat)) (made_act i t path bytes acl with_stat up)
+pub created_does : (s : State) (ids : List (List ℕ)) (i t : ℕ) (path bytes : List ℕ) (acl : List Acl) (with_stat : Bool) (up : Meta) → IsTrue (is_length (length bytes)) → IsGood s → MayCreate s.nodes ids path up → IsAct path s (unless (create_fails s.nodes ids path) s (created s i t path bytes acl with_stat)) (made_act i t path bytes acl with_stat up)
 unfolding created grown
-created_does s ids i t path bytes acl with_stat up good h =
+created_does s ids i t path bytes acl with_stat up fits good h =
     let p = meta_some s.nodes (parent path) up (sym h.parent) in
     let free : map.get s.nodes path ≡ None = meta_none s.nodes path (sym h.free) in
     let rooted : IsRooted s.nodes = rooted_in s good in
@@ -83,6 +84,7 @@ created_does s ids i t path bytes acl with_stat up good h =
           ∙ sym grow;
       on = (refl, record { child = h.child; above = formed s good (parent path) p.0 p.1 });
       owner = tt;
+      fits = fits;
     })
 
 -- where no check fails, the outcome is that of the command
@@ -125,14 +127,15 @@ deleted_does s i path found left good above there child is_left =
           ∙ sym shrink;
       on = (refl, record { child = child; above = formed s good (parent path) p.0 p.1 });
       owner = owner_told s path q.0 found.meta.owner q.1 owner;
+      fits = tt;
     }
 
 got : (nodes : Nodes) (path : List ℕ) (v : Node) → map.get (map.insert nodes path v) path ≡ Some v
 got nodes path v = map.get-insert path_total nodes path v path ∙ ap (λ b. cond b (Some v) (map.get nodes path)) (ap is_eq (tied_itself path_total path))
 
-pub set_does : (s : State) (ids : List (List ℕ)) (perm i t : ℕ) (path bytes : List ℕ) (version : ℕ) (m : Meta) → IsFound s.nodes ids perm path version m → IsAct path s (unless (version_fails s.nodes ids perm path version) s (set s i t path bytes)) (set_act i t path bytes m)
+pub set_does : (s : State) (ids : List (List ℕ)) (perm i t : ℕ) (path bytes : List ℕ) (version : ℕ) (m : Meta) → IsTrue (is_length (length bytes)) → IsFound s.nodes ids perm path version m → IsAct path s (unless (version_fails s.nodes ids perm path version) s (set s i t path bytes)) (set_act i t path bytes m)
 unfolding set
-set_does s ids perm i t path bytes version m h =
+set_does s ids perm i t path bytes version m fits h =
     let p = meta_some s.nodes path m (sym h.there) in
     let v : Node = with_data i t bytes p.0 in
     let c : ℕ = length (children s.nodes path) in
@@ -152,4 +155,5 @@ set_does s ids perm i t path bytes version m h =
           ∙ sym now;
       on = (refl, h.well_formed);
       owner = tt;
+      fits = fits;
     })

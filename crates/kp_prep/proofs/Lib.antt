@@ -5,6 +5,7 @@ pub mod Outcomes
 pub mod Seen
 pub mod Acts
 pub mod Within
+pub mod Changes
 pub mod Plans
 pub mod Carried
 pub mod Numbered

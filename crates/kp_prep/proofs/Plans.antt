@@ -25,7 +25,7 @@ use Rattle.kp_prep.proofs.Within.{the_one, among_named}
 -- an answer alone
 pub answered_is : (k : Touched) (s : State) (applied : ℕ) (r : Reply) → IsPlan k s (replies (record s { applied = applied }) r) (answer_plan r)
 unfolding parts_of
-answered_is k s applied r = record { reply = refl; events = refl; parts = refl; nodes = refl; owner = tt; fit = tt; paths = tt; sessions = tt }
+answered_is k s applied r = record { reply = refl; events = refl; parts = refl; nodes = refl; owner = tt; fit = tt; fits = tt; paths = tt; sessions = tt }
 
 -- a session that is not opened
 pub opened_late : (k : Touched) (s : State) (applied timeout : ℕ) (passwd : List ℕ) (origin : Origin) → (is_held s.sessions origin || nat_le 4611686018427387904 s.next) ≡ true → IsPlan k s (opened (record s { applied = applied }) timeout passwd origin) (answer_plan reply.Stale)
@@ -36,7 +36,7 @@ opened_late k s applied timeout passwd origin late =
 
 opened_is : (timeout : ℕ) (passwd : List ℕ) (origin : Origin) (s : State) (applied : ℕ) (x : Session) → IsPlan (touched_by s (body.OpenSession timeout passwd origin)) s (replies (record s { applied = applied; sessions = map.insert s.sessions s.next x; next = s.next + 1 }) (reply.Session s.next)) (opening_plan s.next x)
 unfolding parts_of
-opened_is timeout passwd origin s applied x = record { reply = refl; events = refl; parts = refl; nodes = refl; owner = tt; fit = tt; paths = tt; sessions = the_one s.next }
+opened_is timeout passwd origin s applied x = record { reply = refl; events = refl; parts = refl; nodes = refl; owner = tt; fit = tt; fits = tt; paths = tt; sessions = the_one s.next }
 
 -- a session that is opened
 pub opened_new : (s : State) (applied timeout : ℕ) (passwd : List ℕ) (origin : Origin) → (is_held s.sessions origin || nat_le 4611686018427387904 s.next) ≡ false → IsPlan (touched_by s (body.OpenSession timeout passwd origin)) s (opened (record s { applied = applied }) timeout passwd origin) (opening_plan s.next (new_session timeout passwd origin))
@@ -117,6 +117,7 @@ acted_is s ids i t id x c a h =
       nodes = h.nodes;
       owner = h.owner;
       fit = fit_on (path_of c) a.effect h.on;
+      fits = h.fits;
       paths = among_named s.nodes id c a.effect h.on;
       sessions = the_one id;
     })

@@ -17,11 +17,11 @@ use Rattle.kp_cells.proofs.Maps.{no, not_some}
 use Rattle.kp_prep.specs.Effects.{IsChildPath}
 use Rattle.kp_prep.specs.Looks.{has_right, room_fails, leave_fails, change_fails}
 
-absent : {X : Type 0} (f : Node → X) (o : Option Node) → None ≡ option_map f o → o ≡ None
+pub absent : {X : Type 0} (f : Node → X) (o : Option Node) → None ≡ option_map f o → o ≡ None
 absent f None e = refl
 absent f (Some n) e = absurd (not_some (sym e))
 
-present : {X : Type 0} (f : Node → X) (o : Option Node) (x : X) → Some x ≡ option_map f o → (n : Node) × (o ≡ Some n) × (x ≡ f n)
+pub present : {X : Type 0} (f : Node → X) (o : Option Node) (x : X) → Some x ≡ option_map f o → (n : Node) × (o ≡ Some n) × (x ≡ f n)
 present f None x e = absurd (not_some e)
 present f (Some n) x e = (n, refl, ap (λ o. unwrap_or o x) e)
 

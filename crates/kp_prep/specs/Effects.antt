@@ -10,6 +10,7 @@ use Rattle.kp_model.specs.declared.command.Cmd.TheVariants as cmd
 use Rattle.kp_model.specs.declared.reply.Event.TheVariants as event
 use Rattle.kp_model.specs.declared.reply.Reply.{Reply}
 use Rattle.kp_model.specs.declared.reply.Reply.TheVariants as reply
+use Rattle.kp_model.specs.Grammar.{is_length}
 use Rattle.kp_model.specs.Path.{root, parent, is_well_formed}
 use Rattle.kp_model.specs.State.{State, Nodes, Sessions, path_cmp, meta_of, meta_at}
 use Rattle.kp_model.specs.Poured.{node_of}
@@ -165,6 +166,13 @@ IsFit (effect.Make path bytes acl meta up) = IsFamily path
 IsFit (effect.Remove path up owner) = IsFamily path
 IsFit (effect.Set path bytes meta) = IsTrue (is_well_formed path)
 
+-- the data of an effect fits its length field
+abbrev pub FitsData : Effect → Type 0
+FitsData effect.Nothing = Unit {0}
+FitsData (effect.Make path bytes acl meta up) = IsTrue (is_length (length bytes))
+FitsData (effect.Remove path up owner) = Unit {0}
+FitsData (effect.Set path bytes meta) = IsTrue (is_length (length bytes))
+
 -- the effect is one on the node at this path
 abbrev pub IsOn : List ℕ → Effect → Type 0
 IsOn q effect.Nothing = Unit {0}
@@ -192,6 +200,7 @@ pub record IsAct (path : List ℕ) (s : State) (o : Outcome) (a : Act) : Type 0 
   pub nodes : effected_nodes s.nodes a.effect ≡ o.state.nodes
   pub on : IsOn path a.effect
   pub owner : TellsOwner (parts_of s) a.effect
+  pub fits : FitsData a.effect
 
 -- an answer, and nothing that is done
 abbrev pub answer_plan : Reply → Plan
@@ -213,5 +222,6 @@ pub record IsPlan (t : Touched) (s : State) (o : Outcome) (p : Plan) : Type 0 wh
   pub nodes : effected_nodes s.nodes p.effect ≡ o.state.nodes
   pub owner : TellsOwner (parts_of s) p.effect
   pub fit : IsFit p.effect
+  pub fits : FitsData p.effect
   pub paths : IsEffectAmong t.paths p.effect
   pub sessions : IsSessionAmong t.sessions p.session

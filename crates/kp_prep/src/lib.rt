@@ -3,10 +3,12 @@
 
 mod act;
 mod checks;
+mod deciding;
 mod entry;
 mod plan;
 mod preparing;
 mod stage;
 
+pub use deciding::{Decided, decide};
 pub use plan::{Act, Effect, Found, Plan, Prepared, Stamp};
 pub use preparing::prepare;

@@ -1,0 +1,166 @@
+-- The changes of a plan, set in their order.
+use Rattle.std.proofs.Common.{◌≡◌, ℕ, true, ◌&&◌, List, [], ◌∷◌, ◌++◌, length, Option, Some, None, refl, ap, sym, subst, ◌∙◌}
+use Rattle.std.specs.Prelude.{Result, Ok, Err, IfOk, IsTrue}
+use Rattle.std.specs.List.{list_all}
+use Rattle.std.proofs.lemmas.List.Folds.{list_all-append}
+use Rattle.std.specs.FinMap as map
+use Rattle.kp_model.specs.declared.node.Acl.{Acl}
+use Rattle.kp_model.specs.declared.node.Meta.{Meta}
+use Rattle.kp_model.specs.declared.node.Node.{Node}
+use Rattle.kp_model.specs.declared.session.Session.{Session}
+use Rattle.kp_model.specs.Good.{IsGood}
+use Rattle.kp_model.specs.Grammar.{is_length}
+use Rattle.kp_model.specs.Path.{parent}
+use Rattle.kp_model.specs.Poured.{node_of}
+use Rattle.kp_model.specs.State.{State, Nodes, Sessions, bytes_at, acl_at}
+use Rattle.kp_model.specs.Step.{Outcome, changed}
+use Rattle.kp_model.specs.Touched.{Touched}
+use Rattle.kp_cells.specs.Parts.{Parts, parts_of}
+use Rattle.kp_cells.specs.declared.change.NodeValue.{NodeValue}
+use Rattle.kp_cells.specs.declared.change.Change.{Change}
+use Rattle.kp_cells.specs.declared.change.Change.TheVariants as change
+use Rattle.kp_prep.specs.declared.deciding.Decided.{Decided}
+use Rattle.kp_prep.specs.declared.plan.Effect.{Effect}
+use Rattle.kp_prep.specs.declared.plan.Effect.TheVariants as effect
+use Rattle.kp_prep.specs.declared.plan.Plan.{Plan}
+use Rattle.kp_prep.specs.Changing.{set_one, set_all, fits_change, renumbered_value, refilled_value, node_changes, effect_changes, session_changes, next_changes, plan_changes}
+use Rattle.kp_prep.specs.Effects.{IsPlan, FitsData, effected, effected_nodes, renewed, next_after}
+use Rattle.kp_prep.proofs.Seen.{absent, present}
+
+-- no list is lent where there is no node
+pub refilled_none : (nodes : Nodes) (p bytes : List ℕ) (m : Meta) → None ≡ acl_at nodes p → None ≡ refilled_value bytes m (map.get nodes p)
+unfolding acl_at
+refilled_none nodes p bytes m e = sym (ap (refilled_value bytes m) (absent (λ (n : Node). n.acl) (map.get nodes p) e))
+
+-- the list that is lent is the node's
+pub refilled_some : (nodes : Nodes) (p b bytes : List ℕ) (m : Meta) (a acl : List Acl) → b ≡ bytes → a ≡ acl → Some acl ≡ acl_at nodes p → Some (record { bytes = b; acl = a; meta = m }) ≡ refilled_value bytes m (map.get nodes p)
+unfolding acl_at
+refilled_some nodes p b bytes m a acl same_bytes same_acl e =
+    let found = present (λ (n : Node). n.acl) (map.get nodes p) acl e in
+    (λ j. Some (record { bytes = same_bytes j; acl = (same_acl ∙ found.2) j; meta = m })) ∙ sym (ap (refilled_value bytes m) found.1)
+
+-- no data is lent where there is no node
+pub renumbered_none : (nodes : Nodes) (p : List ℕ) (m : Meta) → None ≡ bytes_at nodes p → None ≡ renumbered_value m (map.get nodes p)
+unfolding bytes_at
+renumbered_none nodes p m e = sym (ap (renumbered_value m) (absent (λ (n : Node). n.bytes) (map.get nodes p) e))
+
+-- a node with the data that is lent is the node with its own
+pub refilled_again : (nodes : Nodes) (p b bytes : List ℕ) (m : Meta) → b ≡ bytes → Some bytes ≡ bytes_at nodes p → refilled_value b m (map.get nodes p) ≡ renumbered_value m (map.get nodes p)
+unfolding bytes_at
+refilled_again nodes p b bytes m same e =
+    let found = present (λ (n : Node). n.bytes) (map.get nodes p) bytes e in
+    ap (refilled_value b m) found.1
+    ∙ (λ j. Some (record { bytes = (same ∙ found.2) j; acl = found.0.acl; meta = m }))
+    ∙ sym (ap (renumbered_value m) found.1)
+
+set_append : (s : State) (a b : List Change) → set_all s (a ++ b) ≡ set_all (set_all s a) b
+unfolding set_all
+set_append s [] b = refl
+set_append s (c ∷ a) b = set_append (set_one s c) a b
+
+session_all : (s : State) (x : Option (ℕ × Session)) → set_all s (session_changes x) ≡ record s { sessions = renewed s.sessions x }
+unfolding set_all
+session_all s None = refl
+session_all s (Some x) = refl
+
+next_all : (s : State) (n : Option ℕ) → set_all s (next_changes n) ≡ record s { next = next_after s.next n }
+unfolding set_all
+next_all s None = refl
+next_all s (Some n) = refl
+
+-- the parent's numbers, and then one change more
+up_then : (s : State) (q : List ℕ) (m : Meta) (o : Option Node) (c : Change) → set_all s (node_changes q (renumbered_value m o) ++ c ∷ []) ≡ set_one (record s { nodes = changed (λ n. node_of n.bytes n.acl m) q o s.nodes }) c
+unfolding set_all
+up_then s q m None c = refl
+up_then s q m (Some n) c = refl
+
+refilled_all : (s : State) (q bytes : List ℕ) (m : Meta) (o : Option Node) → set_all s (node_changes q (refilled_value bytes m o)) ≡ record s { nodes = changed (λ n. node_of bytes n.acl m) q o s.nodes }
+unfolding set_all
+refilled_all s q bytes m None = refl
+refilled_all s q bytes m (Some n) = refl
+
+effect_all : (s : State) (e : Effect) → set_all s (effect_changes s.nodes e) ≡ record s { nodes = effected_nodes s.nodes e }
+unfolding set_all
+effect_all s effect.Nothing = refl
+effect_all s (effect.Make path bytes acl meta up) = up_then s (parent path) up (map.get s.nodes (parent path)) (change.Node path (Some (record { bytes = bytes; acl = acl; meta = meta })))
+effect_all s (effect.Remove path up owner) = up_then s (parent path) up (map.get s.nodes (parent path)) (change.Node path None)
+effect_all s (effect.Set path bytes meta) = refilled_all s path bytes meta (map.get s.nodes path)
+
+effected_sessions : (q : Parts) (e : Effect) → (effected q e).sessions ≡ q.sessions
+effected_sessions q effect.Nothing = refl
+effected_sessions q (effect.Make path bytes acl meta up) = refl
+effected_sessions q (effect.Remove path up owner) = refl
+effected_sessions q (effect.Set path bytes meta) = refl
+
+effected_next : (q : Parts) (e : Effect) → (effected q e).next ≡ q.next
+effected_next q effect.Nothing = refl
+effected_next q (effect.Make path bytes acl meta up) = refl
+effected_next q (effect.Remove path up owner) = refl
+effected_next q (effect.Set path bytes meta) = refl
+
+-- the changes of what an entry does make of a state the one behind it, but for the applied index
+pub changes_set : (k : Touched) (s : State) (o : Outcome) (p : Plan) → IsPlan k s o p → set_all s (plan_changes s.nodes p) ≡ record o.state { applied = s.applied }
+unfolding parts_of
+changes_set k s o p h =
+    let r : Sessions = renewed s.sessions p.session in
+    let n : ℕ = next_after s.next p.next in
+    let z : State = record s { sessions = r; next = n } in
+    let q : Parts = record (parts_of s) { sessions = r; next = n } in
+    let e : List Change = effect_changes s.nodes p.effect in
+    set_append s (session_changes p.session ++ next_changes p.next) e
+    ∙ ap (λ x. set_all x e) (set_append s (session_changes p.session) (next_changes p.next)
+    ∙ ap (λ x. set_all x (next_changes p.next)) (session_all s p.session)
+    ∙ next_all (record s { sessions = r }) p.next)
+    ∙ effect_all z p.effect
+    ∙ (λ j. record {
+      nodes = h.nodes j;
+      sessions = (sym (effected_sessions q p.effect) ∙ ap (λ (x : Parts). x.sessions) h.parts) j;
+      next = (sym (effected_next q p.effect) ∙ ap (λ (x : Parts). x.next) h.parts) j;
+      applied = s.applied;
+    })
+
+-- an equal value is the same as one that is equal to it
+pub if_same : {X E : Type 0} (r : Result X E) (x y : X) → x ≡ y → IfOk r (λ v. v ≡ x) → IfOk r (λ v. v ≡ y)
+if_same (Ok v) x y e h = h ∙ e
+if_same (Err f) x y e h = tt
+
+-- the same of what was decided
+pub decided_sets : {E : Type 0} (r : Result Decided E) (k : Touched) (s : State) (o : Outcome) (p : Plan) → IsPlan k s o p → IfOk r (λ d. d.changes ≡ plan_changes s.nodes p) → IfOk r (λ d. set_all s d.changes ≡ record o.state { applied = s.applied })
+decided_sets (Ok d) k s o p h e = ap (set_all s) e ∙ changes_set k s o p h
+decided_sets (Err f) k s o p h e = tt
+
+all_fit : (a b : List Change) → IsTrue (list_all fits_change a) → IsTrue (list_all fits_change b) → IsTrue (list_all fits_change (a ++ b))
+all_fit a b p q = list_all-append fits_change a b ∙ (λ j. p j && q j)
+
+session_fits : (x : Option (ℕ × Session)) → IsTrue (list_all fits_change (session_changes x))
+session_fits None = refl
+session_fits (Some x) = refl
+
+next_fits : (n : Option ℕ) → IsTrue (list_all fits_change (next_changes n))
+next_fits None = refl
+next_fits (Some n) = refl
+
+-- a node that has other numbers has the data that it had
+renumbered_fits : (s : State) → IsGood s → (q : List ℕ) (m : Meta) → IsTrue (list_all fits_change (node_changes q (renumbered_value m (map.get s.nodes q))))
+renumbered_fits s good q m = cases (map.get s.nodes q) refl where
+  cases : (o : Option Node) → map.get s.nodes q ≡ o → IsTrue (list_all fits_change (node_changes q (renumbered_value m o)))
+  cases None e = refl
+  cases (Some n) e = ap (λ b. b && true) (good.numbers q n e).bytes
+
+refilled_fits : (q bytes : List ℕ) (m : Meta) (o : Option Node) → IsTrue (is_length (length bytes)) → IsTrue (list_all fits_change (node_changes q (refilled_value bytes m o)))
+refilled_fits q bytes m None h = refl
+refilled_fits q bytes m (Some n) h = ap (λ b. b && true) h
+
+effect_fits : (s : State) → IsGood s → (e : Effect) → FitsData e → IsTrue (list_all fits_change (effect_changes s.nodes e))
+effect_fits s good effect.Nothing h = refl
+effect_fits s good (effect.Make path bytes acl meta up) h = all_fit (node_changes (parent path) (renumbered_value up (map.get s.nodes (parent path)))) (change.Node path (Some (record { bytes = bytes; acl = acl; meta = meta })) ∷ []) (renumbered_fits s good (parent path) up) (ap (λ b. b && true) h)
+effect_fits s good (effect.Remove path up owner) h = all_fit (node_changes (parent path) (renumbered_value up (map.get s.nodes (parent path)))) (change.Node path None ∷ []) (renumbered_fits s good (parent path) up) refl
+effect_fits s good (effect.Set path bytes meta) h = refilled_fits path bytes meta (map.get s.nodes path) h
+
+plan_fits : (s : State) → IsGood s → (p : Plan) → FitsData p.effect → IsTrue (list_all fits_change (plan_changes s.nodes p))
+plan_fits s good p h = all_fit (session_changes p.session ++ next_changes p.next) (effect_changes s.nodes p.effect) (all_fit (session_changes p.session) (next_changes p.next) (session_fits p.session) (next_fits p.next)) (effect_fits s good p.effect h)
+
+-- the data of what was decided fits
+pub decided_fits : {E : Type 0} (r : Result Decided E) (s : State) (p : Plan) → IsGood s → FitsData p.effect → IfOk r (λ d. d.changes ≡ plan_changes s.nodes p) → IfOk r (λ d. IsTrue (list_all fits_change d.changes))
+decided_fits (Ok d) s p good h e = subst (λ cs. IsTrue (list_all fits_change cs)) (sym e) (plan_fits s good p h)
+decided_fits (Err f) s p good h e = tt

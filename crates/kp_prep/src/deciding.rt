@@ -1,0 +1,195 @@
+//! The changes of an entry, as a list.
+
+ghost use Rattle.std.specs.Prelude.{◌≡◌, ◌+◌, ◌++◌, IfOk, OnOk, IsTrue};
+ghost use Rattle.std.specs.List.{list_all};
+ghost use Rattle.std.specs.FinMap as map;
+ghost use Rattle.kp_model.specs.Good.{IsSound};
+ghost use Rattle.kp_model.specs.Path.{parent};
+ghost use Rattle.kp_model.specs.Step.{apply};
+ghost use Rattle.kp_prep.specs.Changing.{set_all, fits_change, plan_changes, session_changes, next_changes, effect_changes, node_changes, renumbered_value, refilled_value};
+ghost use Rattle.kp_prep.specs.Effects.{IsFamily, IsFit};
+
+use crate::entry::plan;
+use crate::plan::{Effect, Plan, Prepared};
+use kp_cells::{Change, Changes, NodeValue};
+use kp_model::{Acl, Acls, Bytes, Entry, Meta, NoMemory, Session, Text, View};
+use std::alloc::Global;
+
+/// What an entry is answered, and what it changes.
+#[derive(Debug, Drop)]
+pub struct Decided {
+    pub prepared: Prepared,
+    /// The changes in the order in which they are set.
+    pub changes: Changes,
+}
+
+/// What an entry of this index is answered, and its changes: set in their order, they make of the nodes, the
+/// sessions and the next session number those behind the entry. The data of each node that is set fits its length
+/// field. The view stays as it is.
+pub fn decide<V: View>(
+    alloc: Global,
+    view: &V,
+    index: u64,
+    entry: &Entry,
+) -> Result<Decided, NoMemory>
+    requires sound { IsSound (V.state view.now) }
+    requires next { (V.state view.now).applied + 1 ≡ index }
+    ensures reply { IfOk result (λ d. d.prepared.reply ≡ (apply (V.state view.now) entry.now).reply) }
+    ensures events { IfOk result (λ d. d.prepared.events ≡ (apply (V.state view.now) entry.now).events) }
+    ensures changes { let s = V.state view.now in IfOk result (λ d. set_all s d.changes ≡ record (apply s entry.now).state { applied = s.applied }) }
+    ensures fits { IfOk result (λ d. IsTrue (list_all fits_change d.changes)) }
+{
+    let found = plan(alloc, view, index, entry)?;
+    listed(alloc, view, found)
+}
+
+// The answer of a plan, and its changes.
+fn listed<V: View>(alloc: Global, view: &V, plan: Plan) -> Result<Decided, NoMemory>
+    requires fit { IsFit plan.effect }
+    ensures answer { IfOk result (λ d. d.prepared ≡ plan.prepared) }
+    ensures changes { IfOk result (λ d. d.changes ≡ plan_changes (V.state view.now).nodes plan) }
+{
+    let Plan {
+        prepared,
+        session,
+        next,
+        effect,
+    } = plan;
+    let mut changes = Changes::new(alloc);
+    push_session(&mut changes, session)?;
+    push_next(&mut changes, next)?;
+    push_effect(alloc, view, &mut changes, effect)?;
+    Ok(Decided { prepared, changes })
+}
+
+// Adds the change of a session, where there is one.
+fn push_session(changes: &mut Changes, session: Option<(u64, Session)>) -> Result<(), NoMemory>
+    ensures { OnOk result (changes.new ≡ changes.old ++ session_changes session) }
+{
+    match session {
+        None => Ok(()),
+        Some((id, session)) => changes.push(Change::Session(id, Some(session))),
+    }
+}
+
+// Adds the change of the next session number, where there is one.
+fn push_next(changes: &mut Changes, next: Option<u64>) -> Result<(), NoMemory>
+    ensures { OnOk result (changes.new ≡ changes.old ++ next_changes next) }
+{
+    match next {
+        None => Ok(()),
+        Some(next) => changes.push(Change::NextSession(next)),
+    }
+}
+
+// Adds the changes of an effect.
+fn push_effect<V: View>(
+    alloc: Global,
+    view: &V,
+    changes: &mut Changes,
+    effect: Effect,
+) -> Result<(), NoMemory>
+    requires { IsFit effect }
+    ensures { OnOk result (changes.new ≡ changes.old ++ effect_changes (V.state view.now).nodes effect) }
+{
+    match effect {
+        Effect::Nothing => Ok(()),
+        Effect::Make {
+            path,
+            bytes,
+            acl,
+            meta,
+            up,
+        } => {
+            push_up(alloc, view, changes, path.as_str(), up)?;
+            changes.push(Change::Node(path, Some(NodeValue { bytes, acl, meta })))
+        }
+        Effect::Remove { path, up, .. } => {
+            push_up(alloc, view, changes, path.as_str(), up)?;
+            changes.push(Change::Node(path, None))
+        }
+        Effect::Set { path, bytes, meta } => {
+            let node = refilled(alloc, view, path.as_str(), bytes, meta)?;
+            push_node(changes, path, node)
+        }
+    }
+}
+
+// Adds that the parent of a path shows these numbers.
+fn push_up<V: View>(
+    alloc: Global,
+    view: &V,
+    changes: &mut Changes,
+    path: &str,
+    up: Meta,
+) -> Result<(), NoMemory>
+    requires { IsFamily path.now }
+    ensures { OnOk result (changes.new ≡ changes.old ++ node_changes (parent path.now) (renumbered_value up (map.get (V.state view.now).nodes (parent path.now)))) }
+{
+    match kp_path::parent(path) {
+        None => Ok(()),
+        Some(above) => {
+            let node = renumbered(alloc, view, above, up)?;
+            push_node(changes, Text::from_str(alloc, above)?, node)
+        }
+    }
+}
+
+// Adds that a node is set, where there is a value for it.
+fn push_node(changes: &mut Changes, path: Text, node: Option<NodeValue>) -> Result<(), NoMemory>
+    ensures { OnOk result (changes.new ≡ changes.old ++ node_changes path node) }
+{
+    match node {
+        None => Ok(()),
+        Some(node) => changes.push(Change::Node(path, Some(node))),
+    }
+}
+
+// The node at a path with other numbers; None where there is none.
+fn renumbered<V: View>(
+    alloc: Global,
+    view: &V,
+    path: &str,
+    meta: Meta,
+) -> Result<Option<NodeValue>, NoMemory>
+    ensures { IfOk result (λ v. v ≡ renumbered_value meta (map.get (V.state view.now).nodes path.now)) }
+{
+    match view.content(path) {
+        None => Ok(None),
+        Some(bytes) => {
+            let bytes = Bytes::from_vec(Vec::from_slice(alloc, bytes)?);
+            refilled(alloc, view, path, bytes, meta)
+        }
+    }
+}
+
+// The node at a path with other data and numbers; None where there is none.
+fn refilled<V: View>(
+    alloc: Global,
+    view: &V,
+    path: &str,
+    bytes: Bytes,
+    meta: Meta,
+) -> Result<Option<NodeValue>, NoMemory>
+    ensures { IfOk result (λ v. v ≡ refilled_value bytes meta (map.get (V.state view.now).nodes path.now)) }
+{
+    match view.acl(path) {
+        None => Ok(None),
+        Some(acl) => Ok(Some(NodeValue {
+            bytes,
+            acl: copied(alloc, acl)?,
+            meta,
+        })),
+    }
+}
+
+// An equal access list with memory of its own.
+fn copied(alloc: Global, from: &[Acl]) -> Result<Acls, NoMemory>
+    ensures { IfOk result (λ acl. acl ≡ from.now) }
+{
+    let mut acl = Acls::new(alloc);
+    for line in from {
+        acl.push(line.copy(alloc)?)?;
+    }
+    Ok(acl)
+}

@@ -1,0 +1,18 @@
+use Rattle.std.proofs.Common.{◌≡◌, ◌++◌, ◌∷◌, []}
+use Rattle.std.proofs.lemmas.Result.{err_from_is_err_and}
+use Rattle.kp_jute.specs.Jute.{items_at}
+use Rattle.kp_entry.specs.Fields.{acls}
+use Rattle.kp_entry.proofs.Loops.{goes_on, ends, is_done}
+use Rattle.kp_entry.proofs.fields.acl_items.Goals as goal
+
+pub returns-in_err-item : goal.returns-in_err-item
+returns-in_err-item c =
+    let p = err_from_is_err_and c.from_residual.result c.from_residual.ensures.1 in
+    rw (p.1, p.2) (ends acls.read c.in_err-item.field-0.0 c.loop.items.items c.args.count c.loop.counter c.loop.reader (items_at acls.read c.args.count c.args.reader.now) c.loop-test.true c.in_err-item.ensures c.loop.invariant)
+
+pub loop-preserved : goal.loop-preserved
+loop-preserved c =
+    rw c.in_ok-push.ensures.items (goes_on acls.read c.loop.items.items c.args.count c.loop.counter c.loop.reader c.in_ok-item.item c.acl.new.reader (items_at acls.read c.args.count c.args.reader.now) c.loop-test.true c.in_ok-item.ensures c.loop.invariant)
+
+pub returns : goal.returns
+returns c = is_done acls.read c.loop.items.items c.args.count c.loop.counter c.loop.reader (items_at acls.read c.args.count c.args.reader.now) c.loop-test.false c.loop.invariant

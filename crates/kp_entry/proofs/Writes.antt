@@ -5,9 +5,10 @@ use Rattle.std.specs.Int.{w8}
 use Rattle.std.specs.List.{flat_map, AllByRecursion}
 use Rattle.std.proofs.lemmas.List.{append-nil}
 use Rattle.std.proofs.lemmas.List.Concat.{flat_map-cons}
-use Rattle.kp_jute.specs.Form.{Form, WroteAll, Wrote}
+use Rattle.kp_jute.specs.Form.{Form, WroteAll, Wrote, tagged}
+use Rattle.kp_jute.specs.Jute.{unsigned}
 use Rattle.kp_model.specs.declared.memory.NoMemory.{NoMemory}
-use Rattle.kp_entry.specs.Fields.{unsigned, u8s, kind_in, kinds, tagged, units}
+use Rattle.kp_entry.specs.Fields.{u8s, kind_in, kinds, units}
 
 pub all_push : {A : Type 0} (P : A → Type 0) (xs : List A) (x : A) → AllByRecursion P xs → P x → AllByRecursion P (xs ++ x ∷ [])
 all_push P [] x h p = (p, tt)

@@ -9,9 +9,9 @@ use Rattle.kp_entry.specs.declared.kinds.OpKind.{OpKind}
 use Rattle.kp_entry.specs.declared.kinds.OpKind.TheVariants as op_kind
 use Rattle.kp_entry.specs.declared.kinds.CmdKind.{CmdKind}
 use Rattle.kp_entry.specs.declared.kinds.CmdKind.TheVariants as cmd_kind
-use Rattle.kp_jute.specs.Form.{Reading, Form, ◌⊗◌, seen}
+use Rattle.kp_jute.specs.Form.{Reading, Form, ◌⊗◌, seen, tagged}
 use Rattle.kp_jute.specs.Jute.{booleans}
-use Rattle.kp_entry.specs.Fields.{u32s, blobs, strings, lists, kinds, tagged, read_of, units, acls}
+use Rattle.kp_entry.specs.Fields.{u32s, blobs, strings, lists, kinds, read_of, units, acls}
 
 -- ---- the fields of each command, in their order
 

@@ -7,8 +7,8 @@ use Rattle.kp_model.specs.declared.entry.Body.TheVariants as body
 use Rattle.kp_model.specs.LogEntry.{LogEntry}
 use Rattle.kp_entry.specs.declared.kinds.BodyKind.{BodyKind}
 use Rattle.kp_entry.specs.declared.kinds.BodyKind.TheVariants as body_kind
-use Rattle.kp_jute.specs.Form.{Reading, Form, ◌⊗◌, seen}
-use Rattle.kp_entry.specs.Fields.{numbers, timeouts, passwords, kinds, tagged, read_of, units, origins}
+use Rattle.kp_jute.specs.Form.{Reading, Form, ◌⊗◌, seen, tagged}
+use Rattle.kp_entry.specs.Fields.{numbers, timeouts, passwords, kinds, read_of, units, origins}
 use Rattle.kp_entry.specs.Commands.{cmds}
 
 abbrev pub body_number : BodyKind → ℕ

@@ -1,42 +1,27 @@
 -- The fields of the log's formats: big-endian numbers without sign, bytes and texts and lists behind a length of
 -- 32 bits, and tags. The formats are this project's own.
 use Rattle.std.specs.Prelude.{◌≡◌, ℕ, ◌^◌, ◌<◌, ◌==◌, Bool, true, List, [], ◌∷◌, ◌++◌, length, Option, Some, None, Result, Ok, Err, if◌then◌else◌}
-use Rattle.std.specs.Int.{Width, w8, w32, w64, byte_len, from_be_bytes, to_be_bytes}
+use Rattle.std.specs.Int.{w8, w32}
 use Rattle.std.specs.List.{flat_map, AllByRecursion}
 use Rattle.std.specs.Str.{is_utf8}
 use Rattle.kp_jute.specs.declared.fault.JuteFail.{JuteFail}
 use Rattle.kp_jute.specs.declared.fault.JuteFail.TheVariants.{BadByte}
-use Rattle.kp_jute.specs.Form.{Place, Reading, ◌>>=◌, Form, ◌⊗◌, seen}
-use Rattle.kp_jute.specs.Jute.{raw_at, items_at}
+use Rattle.kp_jute.specs.Form.{Reading, ◌>>=◌, Form, ◌⊗◌, seen, narrowed}
+use Rattle.kp_jute.specs.Jute.{unsigned, unsigned_at, unsigneds, unsigned_ints, unsigned_longs, raws, raw_at, items_at}
 use Rattle.kp_model.specs.declared.node.Acl.{Acl}
 use Rattle.kp_model.specs.declared.session.Origin.{Origin}
 use Rattle.kp_model.specs.Grammar.{is_number, is_timeout}
 
 -- ---- numbers: big-endian, without sign
 
-unfoldable pub unsigned : Width → ℕ → List ℕ
-unsigned w n = to_be_bytes w n
-
-unfoldable pub unsigned_of : Width → List ℕ → ℕ
-unsigned_of w bytes = from_be_bytes w bytes
-
-unfoldable pub unsigned_at : Width → Reading ℕ
-unsigned_at w p = do
-  b ← raw_at p.at (byte_len w) p
-  Ok (unsigned_of w b.0, b.1)
-
--- the numbers below the limit, in w bits
-abbrev pub naturals : Width → ℕ → Form ℕ
-naturals w limit = record { Fits = λ n. n < limit; spell = unsigned w; read = unsigned_at w }
-
 abbrev pub u8s : Form ℕ
-u8s = naturals w8 (2 ^ 8)
+u8s = unsigneds w8 (2 ^ 8)
 
 abbrev pub u32s : Form ℕ
-u32s = naturals w32 (2 ^ 32)
+u32s = unsigned_ints
 
 abbrev pub u64s : Form ℕ
-u64s = naturals w64 (2 ^ 64)
+u64s = unsigned_longs
 
 -- ---- ranges
 
@@ -71,7 +56,7 @@ strings = limited is_utf8 blobs
 
 -- a session's password: 16 bytes
 abbrev pub passwords : Form (List ℕ)
-passwords = record { Fits = λ b. length b ≡ 16; spell = λ b. b; read = λ p. raw_at p.at 16 p }
+passwords = raws 16
 
 -- ---- lists: a count of 32 bits and that many items
 
@@ -97,26 +82,9 @@ abbrev pub kind_in : {K : Type 0} → List K → (K → ℕ) → ℕ → Option 
 kind_in [] number n = None
 kind_in (k ∷ ks) number n = if n == number k then Some k else kind_in ks number n
 
--- what is picked goes on; where nothing is, the field is refused
-abbrev pub picked : {K : Type 0} → ℕ → Place → Option K → Result (K × Place) JuteFail
-picked at q None = Err (BadByte at)
-picked at q (Some k) = Ok (k, q)
-
 -- the kinds, each by its number in one byte
 abbrev pub kinds : {K : Type 0} → List K → (K → ℕ) → Form K
-kinds all number = record {
-  Fits = λ k. (number k < 2 ^ 8) × (kind_in all number (number k) ≡ Some k);
-  spell = λ k. unsigned w8 (number k);
-  read = λ p. unsigned_at w8 p >>= λ n. picked p.at n.1 (kind_in all number n.0);
-}
-
--- a kind, and the fields that the kind has
-abbrev pub tagged : {K : Type 0} {F : K → Type 0} → Form K → ((k : K) → Form (F k)) → Form ((k : K) × F k)
-tagged {K} {F} tags fields = record {
-  Fits = λ v. tags.Fits v.0 × (fields v.0).Fits v.1;
-  spell = λ v. tags.spell v.0 ++ (fields v.0).spell v.1;
-  read = λ p. tags.read p >>= λ x. (fields x.0).read x.1 >>= λ y. Ok ((x.0, y.0), y.1);
-}
+kinds all number = narrowed (kind_in all number) number u8s
 
 -- a value of this kind, from the fields that the kind has
 abbrev pub read_of : {K A : Type 0} {F : K → Type 0} → ((k : K) → Form (F k)) → ((k : K) → F k → A) → K → Reading A

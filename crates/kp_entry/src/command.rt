@@ -2,16 +2,16 @@
 
 ghost use Rattle.std.specs.Prelude.{◌≡◌};
 ghost use Rattle.kp_jute.specs.Form.{Gives};
-ghost use Rattle.kp_jute.specs.Jute.{items_at};
 ghost use Rattle.kp_entry.specs.declared.kinds.CmdKind.TheVariants as cmd_tag;
 ghost use Rattle.kp_entry.specs.declared.kinds.OpKind.TheVariants as op_tag;
-ghost use Rattle.kp_entry.specs.Fields.{kinds, lists, kind_in};
+ghost use Rattle.kp_entry.specs.Fields.{kinds, kind_in};
 ghost use Rattle.kp_entry.specs.Commands.{op_kinds, op_number, op_in, ops, cmd_kinds, cmd_number, cmd_in, cmd_of, cmds};
 
-use crate::fields::{acl_list, byte, bytes, text, word};
+use crate::fields::{byte, bytes, text};
 use crate::kinds::{CmdKind, OpKind};
+use crate::list::list;
 use kp_jute::{JuteFail, Reader};
-use kp_model::{Cmd, Op, Ops};
+use kp_model::{Cmd, Op};
 use std::alloc::Global;
 
 /// Reads a command: its kind and the fields of the kind.
@@ -79,8 +79,8 @@ fn acl_setting(alloc: Global, reader: &mut Reader<'_>) -> Result<Cmd, JuteFail>
     ensures { Gives (λ c. c) result reader.new (cmd_in cmd_tag.SetAcl reader.old) }
 {
     let path = text(alloc, reader)?;
-    let acl = acl_list(alloc, reader)?;
-    let version = word(reader)?;
+    let acl = list(alloc, reader)?;
+    let version = reader.unsigned_int()?;
     Ok(Cmd::SetAcl { path, acl, version })
 }
 
@@ -97,7 +97,7 @@ fn auth(alloc: Global, reader: &mut Reader<'_>) -> Result<Cmd, JuteFail>
 fn multi(alloc: Global, reader: &mut Reader<'_>) -> Result<Cmd, JuteFail>
     ensures { Gives (λ c. c) result reader.new (cmd_in cmd_tag.Multi reader.old) }
 {
-    let ops = op_list(alloc, reader)?;
+    let ops = list(alloc, reader)?;
     Ok(Cmd::Multi { ops })
 }
 
@@ -149,30 +149,9 @@ fn cmd_from(op: Op) -> Cmd
     }
 }
 
-// Reads the operations of a multi: their count and each of them. Memory is taken one by one, as they are read.
-#[tactic(auto, unfolding(crate::specs::Fields::list_at))]
-fn op_list(alloc: Global, reader: &mut Reader<'_>) -> Result<Ops, JuteFail>
-    ensures { Gives (λ l. l) result reader.new ((lists ops).read reader.old) }
-{
-    let count = word(reader)?;
-    let items = op_items(alloc, reader, count)?;
-    Ok(Ops::from_vec(items))
-}
-
-fn op_items(alloc: Global, reader: &mut Reader<'_>, count: u32) -> Result<Vec<Op>, JuteFail>
-    ensures { Gives (λ v. v.items) result reader.new (items_at ops.read count reader.old) }
-{
-    let mut items = Vec::new(alloc);
-    for _ in 0..count {
-        let item = op(alloc, reader)?;
-        items.push(item)?;
-    }
-    Ok(items)
-}
-
-// Reads an operation: its kind and the fields of the kind.
+/// Reads an operation of a multi: its kind and the fields of the kind.
 #[tactic(auto, unfolding(crate::specs::Commands::op_in))]
-fn op(alloc: Global, reader: &mut Reader<'_>) -> Result<Op, JuteFail>
+pub fn op(alloc: Global, reader: &mut Reader<'_>) -> Result<Op, JuteFail>
     ensures { Gives (λ o. o) result reader.new (ops.read reader.old) }
 {
     let kind = op_kind(reader)?;
@@ -221,8 +200,8 @@ fn creation(alloc: Global, reader: &mut Reader<'_>) -> Result<Op, JuteFail>
 {
     let path = text(alloc, reader)?;
     let bytes = bytes(alloc, reader)?;
-    let acl = acl_list(alloc, reader)?;
-    let flags = word(reader)?;
+    let acl = list(alloc, reader)?;
+    let flags = reader.unsigned_int()?;
     let stat = reader.boolean()?;
     Ok(Op::Create {
         path,
@@ -238,7 +217,7 @@ fn deletion(alloc: Global, reader: &mut Reader<'_>) -> Result<Op, JuteFail>
     ensures { Gives (λ o. o) result reader.new (op_in op_tag.Delete reader.old) }
 {
     let path = text(alloc, reader)?;
-    let version = word(reader)?;
+    let version = reader.unsigned_int()?;
     Ok(Op::Delete { path, version })
 }
 
@@ -248,7 +227,7 @@ fn setting(alloc: Global, reader: &mut Reader<'_>) -> Result<Op, JuteFail>
 {
     let path = text(alloc, reader)?;
     let bytes = bytes(alloc, reader)?;
-    let version = word(reader)?;
+    let version = reader.unsigned_int()?;
     Ok(Op::SetData {
         path,
         bytes,
@@ -261,6 +240,6 @@ fn check(alloc: Global, reader: &mut Reader<'_>) -> Result<Op, JuteFail>
     ensures { Gives (λ o. o) result reader.new (op_in op_tag.Check reader.old) }
 {
     let path = text(alloc, reader)?;
-    let version = word(reader)?;
+    let version = reader.unsigned_int()?;
     Ok(Op::Check { path, version })
 }

@@ -20,7 +20,8 @@ impl From<JuteFail> for EntryFail {
 
     fn from(fail: JuteFail) -> EntryFail {
         match fail {
-            JuteFail::Short { at } | JuteFail::BadLength { at } | JuteFail::BadByte { at } => EntryFail::BadEntry { at },
+            JuteFail::Short { at } | JuteFail::BadLength { at } | JuteFail::BadByte { at } =>
+                EntryFail::BadEntry { at },
             JuteFail::NoMemory => EntryFail::NoMemory,
         }
     }

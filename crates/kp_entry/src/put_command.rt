@@ -1,12 +1,15 @@
 //! Writing commands. Each call that answers Ok was given a value that the format has, and added exactly its spelling.
 
 ghost use Rattle.std.specs.Prelude.{◌≡◌, OnOk};
-ghost use Rattle.kp_jute.specs.Form.{Wrote, WroteAll};
-ghost use Rattle.kp_entry.specs.Fields.{lists};
+ghost use Rattle.kp_jute.specs.Form.{Wrote};
 ghost use Rattle.kp_entry.specs.Commands.{creations, versioned, settings, acl_settings, auths, ops, cmds};
 
-use crate::put_fields::{put_acl_list, put_byte, put_bytes, put_flag, put_text, put_word, MOST};
-use kp_model::{Acls, Bytes, Cmd, NoMemory, Op, Ops, Text};
+use crate::command::op;
+use crate::list::{Item, put_list};
+use crate::put_fields::{put_byte, put_bytes, put_flag, put_text, put_word};
+use kp_jute::{JuteFail, Reader};
+use kp_model::{Acls, Bytes, Cmd, NoMemory, Op, Text};
+use std::alloc::Global;
 
 /// Writes a command: its kind and the fields of the kind.
 #[tactic(auto, using(crate::proofs::CommandWrites::close_written))]
@@ -50,13 +53,27 @@ pub fn put_cmd(out: &mut Vec<u8>, cmd: &Cmd) -> Result<(), NoMemory>
         }
         Cmd::Multi { ops } => {
             put_byte(out, 7)?;
-            put_op_list(out, ops)
+            put_list(out, ops)
         }
         Cmd::Sync { path } => {
             put_byte(out, 8)?;
             put_text(out, path)
         }
         Cmd::CloseSession => put_byte(out, 9),
+    }
+}
+
+impl Item for Op {
+    ghost use Rattle.kp_entry.specs.Commands.{ops};
+
+    ghost form = { ops };
+
+    fn read(alloc: Global, reader: &mut Reader<'_>) -> Result<Op, JuteFail> {
+        op(alloc, reader)
+    }
+
+    fn write(&self, out: &mut Vec<u8>) -> Result<(), NoMemory> {
+        put_op(out, self)
     }
 }
 
@@ -94,27 +111,6 @@ fn put_op(out: &mut Vec<u8>, op: &Op) -> Result<(), NoMemory>
     }
 }
 
-// Writes the operations of a multi: their count and each of them.
-fn put_op_list(out: &mut Vec<u8>, operations: &Ops) -> Result<(), NoMemory>
-    ensures { OnOk result (Wrote (lists ops) operations.now out.old.items out.new.items) }
-{
-    if operations.len() > MOST {
-        return Err(NoMemory);
-    }
-    put_word(out, operations.len() as u32)?;
-    put_ops(out, operations.as_slice())
-}
-
-#[tactic(auto, using(crate::proofs::Writes::all_written, crate::proofs::Writes::none_written))]
-fn put_ops(out: &mut Vec<u8>, operations: &[Op]) -> Result<(), NoMemory>
-    ensures { OnOk result (WroteAll ops operations.now out.old.items out.new.items) }
-{
-    for op in operations {
-        put_op(out, op)?;
-    }
-    Ok(())
-}
-
 // Writes the fields of a creation.
 fn put_creation(
     out: &mut Vec<u8>,
@@ -128,7 +124,7 @@ fn put_creation(
 {
     put_text(out, path)?;
     put_bytes(out, bytes.as_slice())?;
-    put_acl_list(out, acl)?;
+    put_list(out, acl)?;
     put_word(out, flags)?;
     put_flag(out, stat)
 }
@@ -155,7 +151,7 @@ fn put_acl_setting(out: &mut Vec<u8>, path: &Text, acl: &Acls, version: u32) -> 
     ensures { OnOk result (Wrote acl_settings (path.now, (acl.now, version)) out.old.items out.new.items) }
 {
     put_text(out, path)?;
-    put_acl_list(out, acl)?;
+    put_list(out, acl)?;
     put_word(out, version)
 }
 

@@ -4,24 +4,25 @@
 
 ghost use Rattle.std.specs.Prelude.{◌≡◌, ◌<◌, ◌^◌, length, true, OnOk};
 ghost use Rattle.std.specs.Str.{is_utf8};
-ghost use Rattle.kp_jute.specs.Form.{Wrote, WroteAll};
+ghost use Rattle.kp_jute.specs.Form.{Wrote};
 ghost use Rattle.kp_jute.specs.Jute.{booleans};
-ghost use Rattle.kp_entry.specs.Fields.{u8s, u32s, u64s, numbers, timeouts, blobs, strings, passwords, lists, origins, acls};
+ghost use Rattle.kp_entry.specs.Fields.{u8s, u32s, u64s, numbers, timeouts, blobs, strings, passwords, origins};
 
-use kp_model::{Acl, Acls, NoMemory, Origin, Text};
+use kp_model::{NoMemory, Origin, Text};
 
 /// The greatest index, term, time, session, epoch and running number.
 const LAST_NUMBER: u64 = 4611686018427387904;
 
 /// The least and the greatest timeout of a session, in milliseconds.
 const LEAST_TIMEOUT: u32 = 10_000;
+
 const GREATEST_TIMEOUT: u32 = 100_000;
 
-/// The greatest length or count that a field of 4 bytes holds.
-pub const MOST: usize = 4_294_967_295;
+/// The greatest length that a field of 4 bytes holds.
+const MOST: usize = 4_294_967_295;
 
 /// Writes a byte.
-#[tactic(auto, unfolding(crate::specs::Fields::unsigned))]
+#[tactic(auto, unfolding(kp_jute::specs::Jute::unsigned))]
 pub fn put_byte(out: &mut Vec<u8>, value: u8) -> Result<(), NoMemory>
     ensures { OnOk result (Wrote u8s value out.old.items out.new.items) }
 {
@@ -30,7 +31,7 @@ pub fn put_byte(out: &mut Vec<u8>, value: u8) -> Result<(), NoMemory>
 }
 
 /// Writes a number of 4 bytes.
-#[tactic(auto, unfolding(crate::specs::Fields::unsigned))]
+#[tactic(auto, unfolding(kp_jute::specs::Jute::unsigned))]
 pub fn put_word(out: &mut Vec<u8>, value: u32) -> Result<(), NoMemory>
     ensures { OnOk result (Wrote u32s value out.old.items out.new.items) }
 {
@@ -39,7 +40,7 @@ pub fn put_word(out: &mut Vec<u8>, value: u32) -> Result<(), NoMemory>
 }
 
 // Writes a number of 8 bytes.
-#[tactic(auto, unfolding(crate::specs::Fields::unsigned))]
+#[tactic(auto, unfolding(kp_jute::specs::Jute::unsigned))]
 fn put_long_word(out: &mut Vec<u8>, value: u64) -> Result<(), NoMemory>
     ensures { OnOk result (Wrote u64s value out.old.items out.new.items) }
 {
@@ -110,35 +111,6 @@ pub fn put_origin(out: &mut Vec<u8>, value: Origin) -> Result<(), NoMemory>
     put_byte(out, value.node)?;
     put_number(out, value.boot)?;
     put_number(out, value.conn)
-}
-
-/// Writes an access list: its count and its lines.
-pub fn put_acl_list(out: &mut Vec<u8>, value: &Acls) -> Result<(), NoMemory>
-    ensures { OnOk result (Wrote (lists acls) value.now out.old.items out.new.items) }
-{
-    if value.len() > MOST {
-        return Err(NoMemory);
-    }
-    put_word(out, value.len() as u32)?;
-    put_acls(out, value.as_slice())
-}
-
-#[tactic(auto, using(crate::proofs::Writes::all_written, crate::proofs::Writes::none_written))]
-fn put_acls(out: &mut Vec<u8>, lines: &[Acl]) -> Result<(), NoMemory>
-    ensures { OnOk result (WroteAll acls lines.now out.old.items out.new.items) }
-{
-    for line in lines {
-        put_acl(out, line)?;
-    }
-    Ok(())
-}
-
-fn put_acl(out: &mut Vec<u8>, line: &Acl) -> Result<(), NoMemory>
-    ensures { OnOk result (Wrote acls line.now out.old.items out.new.items) }
-{
-    put_word(out, line.perms)?;
-    put_text(out, &line.scheme)?;
-    put_text(out, &line.id)
 }
 
 #[tactic(auto, using(crate::proofs::Utf8::is_valid))]

@@ -20,7 +20,7 @@ pub returns-in_ok-put_byte-in-Auth : goal.returns-in_ok-put_byte-in-Auth
 returns-in_ok-put_byte-in-Auth c = cmd_put _ _ c.in-Auth.is _ _ _ _ c.in_ok-put_byte-in-Auth.ensures c.put_auth.ensures
 
 pub returns-in_ok-put_byte-in-Multi : goal.returns-in_ok-put_byte-in-Multi
-returns-in_ok-put_byte-in-Multi c = cmd_put _ _ c.in-Multi.is _ _ _ _ c.in_ok-put_byte-in-Multi.ensures c.put_op_list.ensures
+returns-in_ok-put_byte-in-Multi c = cmd_put _ _ c.in-Multi.is _ _ _ _ c.in_ok-put_byte-in-Multi.ensures c.put_list.ensures
 
 pub returns-in_ok-put_byte-in-Sync : goal.returns-in_ok-put_byte-in-Sync
 returns-in_ok-put_byte-in-Sync c = cmd_put _ _ c.in-Sync.is _ _ _ _ c.in_ok-put_byte-in-Sync.ensures c.put_text.ensures

@@ -7,19 +7,19 @@ ghost use Rattle.kp_entry.specs.declared.kinds.BodyKind.TheVariants as body_tag;
 ghost use Rattle.kp_entry.specs.Fields.{kinds, kind_in};
 ghost use Rattle.kp_entry.specs.Entries.{body_kinds, body_number, body_in, bodies, entries};
 
-use crate::command::cmd;
-use crate::fields::{byte, number, origin, password, timeout};
+use crate::command::read_cmd;
+use crate::fields::{read_byte, read_number, read_origin, read_password, read_timeout};
 use crate::kinds::BodyKind;
 use kp_jute::{JuteFail, Reader};
 use kp_model::{Body, Entry};
 use std::alloc::Global;
 
 /// Reads an entry: its term, its time and what it asks for.
-pub fn entry(alloc: Global, reader: &mut Reader<'_>) -> Result<Entry, JuteFail>
+pub fn read_entry(alloc: Global, reader: &mut Reader<'_>) -> Result<Entry, JuteFail>
     ensures { Gives (λ e. e) result reader.new (entries.read reader.old) }
 {
-    let term = number(reader)?;
-    let time = number(reader)?;
+    let term = read_number(reader)?;
+    let time = read_number(reader)?;
     let body = body(alloc, reader)?;
     match Entry::new(term, time, body) {
         Ok(entry) => Ok(entry),
@@ -41,7 +41,7 @@ fn body_kind(reader: &mut Reader<'_>) -> Result<BodyKind, JuteFail>
     ensures { Gives (λ k. k) result reader.new ((kinds body_kinds body_number).read reader.old) }
 {
     let at = reader.place();
-    let number = byte(reader)?;
+    let number = read_byte(reader)?;
     match body_kind_of(number) {
         Some(kind) => Ok(kind),
         None => Err(JuteFail::BadByte { at }),
@@ -90,9 +90,9 @@ fn opening(reader: &mut Reader<'_>) -> Result<Body, JuteFail>
     ensures read { Gives (λ b. b) result reader.new (body_in body_tag.OpenSession reader.old) }
     ensures range { IfOk result (λ b. IsTrue (is_body b)) }
 {
-    let timeout = timeout(reader)?;
-    let passwd = password(reader)?;
-    let origin = origin(reader)?;
+    let timeout = read_timeout(reader)?;
+    let passwd = read_password(reader)?;
+    let origin = read_origin(reader)?;
     Ok(Body::OpenSession {
         timeout,
         passwd,
@@ -105,9 +105,9 @@ fn attachment(reader: &mut Reader<'_>) -> Result<Body, JuteFail>
     ensures read { Gives (λ b. b) result reader.new (body_in body_tag.Attach reader.old) }
     ensures range { IfOk result (λ b. IsTrue (is_body b)) }
 {
-    let session = number(reader)?;
-    let passwd = password(reader)?;
-    let origin = origin(reader)?;
+    let session = read_number(reader)?;
+    let passwd = read_password(reader)?;
+    let origin = read_origin(reader)?;
     Ok(Body::Attach {
         session,
         passwd,
@@ -120,7 +120,7 @@ fn expiry(reader: &mut Reader<'_>) -> Result<Body, JuteFail>
     ensures read { Gives (λ b. b) result reader.new (body_in body_tag.Expire reader.old) }
     ensures range { IfOk result (λ b. IsTrue (is_body b)) }
 {
-    let session = number(reader)?;
+    let session = read_number(reader)?;
     Ok(Body::Expire { session })
 }
 
@@ -129,10 +129,10 @@ fn write(alloc: Global, reader: &mut Reader<'_>) -> Result<Body, JuteFail>
     ensures read { Gives (λ b. b) result reader.new (body_in body_tag.Write reader.old) }
     ensures range { IfOk result (λ b. IsTrue (is_body b)) }
 {
-    let session = number(reader)?;
-    let epoch = number(reader)?;
-    let seq = number(reader)?;
-    let cmd = cmd(alloc, reader)?;
+    let session = read_number(reader)?;
+    let epoch = read_number(reader)?;
+    let seq = read_number(reader)?;
+    let cmd = read_cmd(alloc, reader)?;
     Ok(Body::Write {
         session,
         epoch,

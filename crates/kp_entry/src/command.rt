@@ -7,16 +7,16 @@ ghost use Rattle.kp_entry.specs.declared.kinds.OpKind.TheVariants as op_tag;
 ghost use Rattle.kp_entry.specs.Fields.{kinds, kind_in};
 ghost use Rattle.kp_entry.specs.Commands.{op_kinds, op_number, op_in, ops, cmd_kinds, cmd_number, cmd_in, cmd_of, cmds};
 
-use crate::fields::{byte, bytes, text};
+use crate::fields::{read_byte, read_bytes, read_text};
 use crate::kinds::{CmdKind, OpKind};
-use crate::list::list;
+use crate::list::read_list;
 use kp_jute::{JuteFail, Reader};
 use kp_model::{Cmd, Op};
 use std::alloc::Global;
 
 /// Reads a command: its kind and the fields of the kind.
 #[tactic(auto, unfolding(crate::specs::Commands::cmd_in))]
-pub fn cmd(alloc: Global, reader: &mut Reader<'_>) -> Result<Cmd, JuteFail>
+pub fn read_cmd(alloc: Global, reader: &mut Reader<'_>) -> Result<Cmd, JuteFail>
     ensures { Gives (λ c. c) result reader.new (cmds.read reader.old) }
 {
     let kind = cmd_kind(reader)?;
@@ -27,7 +27,7 @@ fn cmd_kind(reader: &mut Reader<'_>) -> Result<CmdKind, JuteFail>
     ensures { Gives (λ k. k) result reader.new ((kinds cmd_kinds cmd_number).read reader.old) }
 {
     let at = reader.place();
-    let number = byte(reader)?;
+    let number = read_byte(reader)?;
     match cmd_kind_of(number) {
         Some(kind) => Ok(kind),
         None => Err(JuteFail::BadByte { at }),
@@ -78,8 +78,8 @@ fn operation(alloc: Global, reader: &mut Reader<'_>, kind: OpKind) -> Result<Cmd
 fn acl_setting(alloc: Global, reader: &mut Reader<'_>) -> Result<Cmd, JuteFail>
     ensures { Gives (λ c. c) result reader.new (cmd_in cmd_tag.SetAcl reader.old) }
 {
-    let path = text(alloc, reader)?;
-    let acl = list(alloc, reader)?;
+    let path = read_text(alloc, reader)?;
+    let acl = read_list(alloc, reader)?;
     let version = reader.unsigned_int()?;
     Ok(Cmd::SetAcl { path, acl, version })
 }
@@ -88,8 +88,8 @@ fn acl_setting(alloc: Global, reader: &mut Reader<'_>) -> Result<Cmd, JuteFail>
 fn auth(alloc: Global, reader: &mut Reader<'_>) -> Result<Cmd, JuteFail>
     ensures { Gives (λ c. c) result reader.new (cmd_in cmd_tag.Auth reader.old) }
 {
-    let scheme = text(alloc, reader)?;
-    let auth = bytes(alloc, reader)?;
+    let scheme = read_text(alloc, reader)?;
+    let auth = read_bytes(alloc, reader)?;
     Ok(Cmd::Auth { scheme, auth })
 }
 
@@ -97,7 +97,7 @@ fn auth(alloc: Global, reader: &mut Reader<'_>) -> Result<Cmd, JuteFail>
 fn multi(alloc: Global, reader: &mut Reader<'_>) -> Result<Cmd, JuteFail>
     ensures { Gives (λ c. c) result reader.new (cmd_in cmd_tag.Multi reader.old) }
 {
-    let ops = list(alloc, reader)?;
+    let ops = read_list(alloc, reader)?;
     Ok(Cmd::Multi { ops })
 }
 
@@ -105,7 +105,7 @@ fn multi(alloc: Global, reader: &mut Reader<'_>) -> Result<Cmd, JuteFail>
 fn sync(alloc: Global, reader: &mut Reader<'_>) -> Result<Cmd, JuteFail>
     ensures { Gives (λ c. c) result reader.new (cmd_in cmd_tag.Sync reader.old) }
 {
-    let path = text(alloc, reader)?;
+    let path = read_text(alloc, reader)?;
     Ok(Cmd::Sync { path })
 }
 
@@ -151,7 +151,7 @@ fn cmd_from(op: Op) -> Cmd
 
 /// Reads an operation of a multi: its kind and the fields of the kind.
 #[tactic(auto, unfolding(crate::specs::Commands::op_in))]
-pub fn op(alloc: Global, reader: &mut Reader<'_>) -> Result<Op, JuteFail>
+pub fn read_op(alloc: Global, reader: &mut Reader<'_>) -> Result<Op, JuteFail>
     ensures { Gives (λ o. o) result reader.new (ops.read reader.old) }
 {
     let kind = op_kind(reader)?;
@@ -162,7 +162,7 @@ fn op_kind(reader: &mut Reader<'_>) -> Result<OpKind, JuteFail>
     ensures { Gives (λ k. k) result reader.new ((kinds op_kinds op_number).read reader.old) }
 {
     let at = reader.place();
-    let number = byte(reader)?;
+    let number = read_byte(reader)?;
     match op_kind_of(number) {
         Some(kind) => Ok(kind),
         None => Err(JuteFail::BadByte { at }),
@@ -198,9 +198,9 @@ fn op_of_kind(alloc: Global, reader: &mut Reader<'_>, kind: OpKind) -> Result<Op
 fn creation(alloc: Global, reader: &mut Reader<'_>) -> Result<Op, JuteFail>
     ensures { Gives (λ o. o) result reader.new (op_in op_tag.Create reader.old) }
 {
-    let path = text(alloc, reader)?;
-    let bytes = bytes(alloc, reader)?;
-    let acl = list(alloc, reader)?;
+    let path = read_text(alloc, reader)?;
+    let bytes = read_bytes(alloc, reader)?;
+    let acl = read_list(alloc, reader)?;
     let flags = reader.unsigned_int()?;
     let stat = reader.boolean()?;
     Ok(Op::Create {
@@ -216,7 +216,7 @@ fn creation(alloc: Global, reader: &mut Reader<'_>) -> Result<Op, JuteFail>
 fn deletion(alloc: Global, reader: &mut Reader<'_>) -> Result<Op, JuteFail>
     ensures { Gives (λ o. o) result reader.new (op_in op_tag.Delete reader.old) }
 {
-    let path = text(alloc, reader)?;
+    let path = read_text(alloc, reader)?;
     let version = reader.unsigned_int()?;
     Ok(Op::Delete { path, version })
 }
@@ -225,8 +225,8 @@ fn deletion(alloc: Global, reader: &mut Reader<'_>) -> Result<Op, JuteFail>
 fn setting(alloc: Global, reader: &mut Reader<'_>) -> Result<Op, JuteFail>
     ensures { Gives (λ o. o) result reader.new (op_in op_tag.SetData reader.old) }
 {
-    let path = text(alloc, reader)?;
-    let bytes = bytes(alloc, reader)?;
+    let path = read_text(alloc, reader)?;
+    let bytes = read_bytes(alloc, reader)?;
     let version = reader.unsigned_int()?;
     Ok(Op::SetData {
         path,
@@ -239,7 +239,7 @@ fn setting(alloc: Global, reader: &mut Reader<'_>) -> Result<Op, JuteFail>
 fn check(alloc: Global, reader: &mut Reader<'_>) -> Result<Op, JuteFail>
     ensures { Gives (λ o. o) result reader.new (op_in op_tag.Check reader.old) }
 {
-    let path = text(alloc, reader)?;
+    let path = read_text(alloc, reader)?;
     let version = reader.unsigned_int()?;
     Ok(Op::Check { path, version })
 }

@@ -6,7 +6,7 @@ ghost use Rattle.kp_model.specs.LogEntry.{LogEntry};
 ghost use Rattle.kp_entry.specs.Entries.{entries};
 ghost use Rattle.kp_entry.specs.Decoding.{BeginsWith, Decodes, IsEntryOf};
 
-use crate::body::entry;
+use crate::body::read_entry;
 use crate::fail::EntryFail;
 use crate::put_body::put_entry;
 use kp_jute::Reader;
@@ -41,7 +41,7 @@ fn decoded(alloc: Global, bytes: &[u8]) -> Result<(Entry, usize), EntryFail>
     ensures { Decodes result (entries.read (front 0 bytes.now)) }
 {
     let mut reader = Reader::new(bytes);
-    match entry(alloc, &mut reader) {
+    match read_entry(alloc, &mut reader) {
         Ok(entry) => Ok((entry, reader.place())),
         Err(fail) => Err(EntryFail::from(fail)),
     }

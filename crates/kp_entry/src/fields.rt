@@ -23,7 +23,7 @@ const GREATEST_TIMEOUT: u32 = 100_000;
 
 /// Reads a byte.
 #[tactic(auto, using(crate::proofs::Raws::raw_len), unfolding(kp_jute::specs::Jute::unsigned_at))]
-pub fn byte(reader: &mut Reader<'_>) -> Result<u8, JuteFail>
+pub fn read_byte(reader: &mut Reader<'_>) -> Result<u8, JuteFail>
     ensures { Gives (λ n. n) result reader.new (u8s.read reader.old) }
 {
     let bytes = reader.take(1)?;
@@ -31,7 +31,7 @@ pub fn byte(reader: &mut Reader<'_>) -> Result<u8, JuteFail>
 }
 
 /// Reads an index, a term, a time, a session, an epoch or a running number: 8 bytes, at most 2^62.
-pub fn number(reader: &mut Reader<'_>) -> Result<u64, JuteFail>
+pub fn read_number(reader: &mut Reader<'_>) -> Result<u64, JuteFail>
     ensures read { Gives (λ n. n) result reader.new (numbers.read reader.old) }
     ensures range { IfOk result (λ n. IsTrue (is_number n)) }
 {
@@ -44,7 +44,7 @@ pub fn number(reader: &mut Reader<'_>) -> Result<u64, JuteFail>
 }
 
 /// Reads a session's timeout: 4 bytes, 10,000 to 100,000 milliseconds.
-pub fn timeout(reader: &mut Reader<'_>) -> Result<u32, JuteFail>
+pub fn read_timeout(reader: &mut Reader<'_>) -> Result<u32, JuteFail>
     ensures read { Gives (λ n. n) result reader.new (timeouts.read reader.old) }
     ensures range { IfOk result (λ n. IsTrue (is_timeout n)) }
 {
@@ -57,7 +57,7 @@ pub fn timeout(reader: &mut Reader<'_>) -> Result<u32, JuteFail>
 }
 
 /// Reads bytes behind their length. They are copied once, and only where they are all there.
-pub fn bytes(alloc: Global, reader: &mut Reader<'_>) -> Result<Bytes, JuteFail>
+pub fn read_bytes(alloc: Global, reader: &mut Reader<'_>) -> Result<Bytes, JuteFail>
     ensures { Gives (λ b. b) result reader.new (blobs.read reader.old) }
 {
     let bytes = blob(reader)?;
@@ -66,7 +66,7 @@ pub fn bytes(alloc: Global, reader: &mut Reader<'_>) -> Result<Bytes, JuteFail>
 }
 
 /// Reads a text behind its length. Its bytes are copied once, and only where they are text.
-pub fn text(alloc: Global, reader: &mut Reader<'_>) -> Result<Text, JuteFail>
+pub fn read_text(alloc: Global, reader: &mut Reader<'_>) -> Result<Text, JuteFail>
     ensures { Gives (λ t. t) result reader.new (strings.read reader.old) }
 {
     let at = reader.place();
@@ -78,7 +78,7 @@ pub fn text(alloc: Global, reader: &mut Reader<'_>) -> Result<Text, JuteFail>
 
 /// Reads a session's password: 16 bytes.
 #[tactic(auto, using(crate::proofs::Raws::raw_len))]
-pub fn password(reader: &mut Reader<'_>) -> Result<[u8; 16], JuteFail>
+pub fn read_password(reader: &mut Reader<'_>) -> Result<[u8; 16], JuteFail>
     ensures { Gives (λ b. b) result reader.new (passwords.read reader.old) }
 {
     let bytes = reader.take(16)?;
@@ -88,13 +88,13 @@ pub fn password(reader: &mut Reader<'_>) -> Result<[u8; 16], JuteFail>
 }
 
 /// Reads an origin: the server's number, and its boot and connection numbers.
-pub fn origin(reader: &mut Reader<'_>) -> Result<Origin, JuteFail>
+pub fn read_origin(reader: &mut Reader<'_>) -> Result<Origin, JuteFail>
     ensures read { Gives (λ o. o) result reader.new (origins.read reader.old) }
     ensures range { IfOk result (λ o. IsTrue (is_origin o)) }
 {
-    let node = byte(reader)?;
-    let boot = number(reader)?;
-    let conn = number(reader)?;
+    let node = read_byte(reader)?;
+    let boot = read_number(reader)?;
+    let conn = read_number(reader)?;
     Ok(Origin { node, boot, conn })
 }
 
@@ -105,8 +105,8 @@ impl Item for Acl {
 
     fn read(alloc: Global, reader: &mut Reader<'_>) -> Result<Acl, JuteFail> {
         let perms = reader.unsigned_int()?;
-        let scheme = text(alloc, reader)?;
-        let id = text(alloc, reader)?;
+        let scheme = read_text(alloc, reader)?;
+        let id = read_text(alloc, reader)?;
         Ok(Acl { perms, scheme, id })
     }
 

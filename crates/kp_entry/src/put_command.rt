@@ -4,7 +4,7 @@ ghost use Rattle.std.specs.Prelude.{◌≡◌, OnOk};
 ghost use Rattle.kp_jute.specs.Form.{Wrote};
 ghost use Rattle.kp_entry.specs.Commands.{creations, versioned, settings, acl_settings, auths, ops, cmds};
 
-use crate::command::op;
+use crate::command::read_op;
 use crate::list::{Item, put_list};
 use crate::put_fields::{put_byte, put_bytes, put_flag, put_text, put_word};
 use kp_jute::{JuteFail, Reader};
@@ -69,7 +69,7 @@ impl Item for Op {
     ghost form = { ops };
 
     fn read(alloc: Global, reader: &mut Reader<'_>) -> Result<Op, JuteFail> {
-        op(alloc, reader)
+        read_op(alloc, reader)
     }
 
     fn write(&self, out: &mut Vec<u8>) -> Result<(), NoMemory> {

@@ -1,10 +1,15 @@
 -- Lists of records and their bytes.
-use Rattle.std.proofs.Common.{get_or, ◌≡◌, ℕ, zero, suc, ◌+◌, ◌-◌, ◌^◌, ◌<◌, ◌≤◌, Bool, true, false, List, [], ◌∷◌, ◌++◌, length, take, drop, map, Option, Some, None, refl, sym, ap, subst, ◌∙◌, append_assoc, arith, length-append}
-use Rattle.std.specs.Prelude.{slice_get, option_map, ◌||◌}
+use Rattle.std.proofs.Common.{get_or, ◌≡◌, ℕ, zero, suc, ◌+◌, ◌-◌, ◌^◌, ◌<◌, ◌≤◌, Bool, true, false, List, [], ◌∷◌, ◌++◌, length, take, drop, map, Option, Some, None, Result, Ok, Err, refl, sym, ap, subst, ◌∙◌, append_assoc, arith, length-append}
+use Rattle.std.specs.Prelude.{slice_get, option_map, ◌||◌, OnOk, OnErr}
+use Rattle.std.specs.Result.{is_err}
+use Rattle.std.proofs.Math.Seq.{take-suc}
+use Rattle.kp_model.specs.declared.memory.NoMemory.{NoMemory}
 use Rattle.std.specs.List.{flat_map, list_any}
 use Rattle.std.proofs.lemmas.Option.{slice_get-map}
 use Rattle.std.proofs.lemmas.List.{append-nil, map_push, take-map, take-append-drop, take_at, length-take}
-use Rattle.std.proofs.lemmas.List.Concat.{flat_map-cons, flat_map-append}
+use Rattle.std.proofs.lemmas.List.Concat.{flat_map-cons}
+use Rattle.std.proofs.lemmas.Grind.{flat_map-append}
+use Rattle.std.proofs.lemmas.List.Folds.{list_any-append}
 use Rattle.kp_entry.specs.declared.record.Record.{Record}
 use Rattle.kp_entry.specs.declared.records.Kept.{Kept}
 use Rattle.kp_entry.specs.Records.{records, spelled, is_base, has_base, IsRecord, IsRun, Added}
@@ -104,3 +109,65 @@ keep_holds items bytes n end h is =
 
 pub none_holds : HoldsTogether [] []
 none_holds = record { run = tt; spelled_as = sym spelled_nil; ends = tt; small = omega arith }
+
+-- ---- what is seen of them
+
+pub pushed : (items : List Kept) (k : Kept) → records_in (items ++ k ∷ []) ≡ records_in items ++ k.value ∷ []
+pushed items k = map_push (λ (j : Kept). j.value) items k
+
+pub taken : (n : ℕ) (items : List Kept) → records_in (take n items) ≡ take n (records_in items)
+taken n items = sym (take-map (λ (k : Kept). k.value) n items)
+
+pub any_in : (items : List Kept) → list_any (λ k. is_base k.value) items ≡ has_base (records_in items)
+any_in [] = refl
+any_in (k ∷ ks) = ap (λ (b : Bool). is_base k.value || b) (any_in ks)
+
+pub in_parts : (xs ys : List Record) → has_base (xs ++ ys) ≡ (has_base xs || has_base ys)
+in_parts xs ys = list_any-append is_base xs ys
+
+pub none_before : (n : ℕ) (items : List Kept) → n ≡ 0 → 0 ≡ length (spelled (records_in (take n items)))
+none_before n items e = sym (ap (λ (k : ℕ). length (spelled (records_in (take k items)))) e ∙ ap (λ (b : List ℕ). length b) spelled_nil)
+
+-- ---- one list behind another, record by record
+
+both_false : (b c : Bool) → b ≡ false → c ≡ false → (b || (c || false)) ≡ false
+both_false true c e f = absurd cc
+both_false false true e f = absurd cc
+both_false false false e f = refl
+
+still_open : (self : List Record) (r : Record) → has_base self ≡ false → is_base r ≡ false → has_base (self ++ r ∷ []) ≡ false
+still_open self r e f = in_parts self (r ∷ []) ∙ both_false (has_base self) (is_base r) e f
+
+no_base_at : (items : List Kept) (i : ℕ) (d : Kept) → has_base (records_in items) ≡ false → i < length items → is_base (get_or items i d).value ≡ false
+no_base_at [] i d none lt = absurd (omega (arith, lt))
+no_base_at (k ∷ ks) zero d none lt = (not_first (is_base k.value) (has_base (records_in ks)) none).0
+no_base_at (k ∷ ks) (suc i) d none lt = no_base_at ks i d (not_first (is_base k.value) (has_base (records_in ks)) none).1 (omega (arith, lt))
+
+pub stays_open : (self new : List Record) (items : List Kept) (i : ℕ) (k : Kept) → has_base self ≡ false → has_base (records_in items) ≡ false → i < length items → k ≡ get_or items i k → new ≡ self ++ k.value ∷ [] → has_base new ≡ false
+stays_open self new items i k open_ none lt is e = ap has_base e ∙ still_open self k.value open_ (ap (λ (j : Kept). is_base j.value) is ∙ no_base_at items i k none lt)
+
+pub goes_on : (old self new : List Record) (items : List Kept) (i : ℕ) (k : Kept) → i < length items → k ≡ get_or items i k → self ≡ old ++ records_in (take i items) → new ≡ self ++ k.value ∷ [] → new ≡ old ++ records_in (take (i + 1) items)
+goes_on old self new items i k lt is so_far e =
+    let count : i + 1 ≡ suc i = omega arith in
+    let next : take (i + 1) items ≡ take i items ++ k ∷ [] = ap (λ (n : ℕ). take n items) count ∙ take-suc items i k lt ∙ ap (λ (j : Kept). take i items ++ j ∷ []) (sym is) in
+    e ∙ ap (λ (rs : List Record). rs ++ k.value ∷ []) so_far ∙ append_assoc old (records_in (take i items)) (k.value ∷ []) ∙ ap (λ (rs : List Record). old ++ rs) (sym (pushed (take i items) k) ∙ ap records_in (sym next))
+
+all_taken : (n : ℕ) (items : List Kept) → length items ≤ n → take n items ≡ items
+all_taken zero [] le = refl
+all_taken zero (k ∷ ks) le = absurd (omega (arith, le))
+all_taken (suc n) [] le = refl
+all_taken (suc n) (k ∷ ks) le = ap (λ (js : List Kept). k ∷ js) (all_taken n ks (omega (arith, le)))
+
+pub is_joined : (old self : List Record) (items : List Kept) (n : ℕ) → self ≡ old ++ records_in (take n items) → length items ≤ n → self ≡ old ++ records_in items
+is_joined old self items n so_far le = so_far ∙ ap (λ (ks : List Kept). old ++ records_in ks) (all_taken n items le)
+
+pub is_undone : (old more self pushed : List Record) (len : ℕ) → len ≡ length old → self ≡ old ++ more → pushed ≡ self → take len pushed ≡ old
+is_undone old more self pushed len is so_far same = ap (take len) (same ∙ so_far) ∙ take_at old more len (sym is)
+
+pub was_ok : {P : Type 0} (r : Result (Unit {0}) NoMemory) → is_err r ≡ false → OnOk r P → P
+was_ok (Ok u) e h = h
+was_ok (Err x) e h = absurd cc
+
+pub was_err : {P : Type 0} (r : Result (Unit {0}) NoMemory) → is_err r ≡ true → OnErr r P → P
+was_err (Ok u) e h = absurd cc
+was_err (Err x) e h = h

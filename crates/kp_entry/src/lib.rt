@@ -23,11 +23,11 @@ pub use fail::EntryFail;
 pub use fields::{
     read_byte, read_bytes, read_number, read_origin, read_password, read_text, read_timeout,
 };
-pub use list::{put_list, read_list, Item};
+pub use list::{Item, put_list, read_list};
 pub use promises::{laws, no_entry_begins_another};
 pub use put_body::put_entry;
 pub use put_fields::{
     put_byte, put_bytes, put_number, put_origin, put_password, put_text, put_timeout, put_word,
 };
-pub use record::{put_record, read_record, Record};
+pub use record::{Record, put_record, read_record};
 pub use records::Records;

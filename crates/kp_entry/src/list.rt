@@ -28,7 +28,10 @@ pub trait Item: Sized {
 
 /// Reads a list. Memory is taken item by item, as they are read, whatever the count says.
 #[tactic(auto, unfolding(crate::specs::Fields::list_at))]
-pub fn read_list<T: Item + Drop>(alloc: Global, reader: &mut Reader<'_>) -> Result<Items<T>, JuteFail>
+pub fn read_list<T: Item + Drop>(
+    alloc: Global,
+    reader: &mut Reader<'_>,
+) -> Result<Items<T>, JuteFail>
     ensures { Gives (λ l. l) result reader.new ((lists T.form).read reader.old) }
 {
     let count = reader.unsigned_int()?;

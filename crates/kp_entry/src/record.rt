@@ -25,27 +25,15 @@ const LAST_NUMBER: u64 = 4611686018427387904;
 #[derive(Debug, Drop)]
 pub enum Record {
     /// The term is this one, and the vote in it went to this server, or to none where it is 0.
-    Vote {
-        term: u64,
-        vote: u8,
-    },
+    Vote { term: u64, vote: u8 },
     /// How often the server was started.
-    Boot {
-        boot: u64,
-    },
+    Boot { boot: u64 },
     /// The log has one more entry.
-    Append {
-        entry: Entry,
-    },
+    Append { entry: Entry },
     /// The log ends at this index.
-    Truncate {
-        last: u64,
-    },
+    Truncate { last: u64 },
     /// An image stands for the log up to this index, whose entry has this term.
-    Base {
-        index: u64,
-        term: u64,
-    },
+    Base { index: u64, term: u64 },
 }
 
 impl Record {

@@ -1,10 +1,11 @@
 //! Lists of records, which have their bytes at hand.
 
 ghost use Rattle.std.specs.Prelude.{◌≡◌, [], ◌∷◌, ◌++◌, ◌^◌, ◌<◌, ◌≤◌, false, length, take, slice_get, option_copied, IfOk, OnOk, OnErr};
-ghost use Rattle.kp_entry.specs.Records.{Added, IsRun, has_base, spelled};
+ghost use Rattle.std.specs.List.{list_any};
+ghost use Rattle.kp_entry.specs.Records.{Added, IsRun, has_base, is_base, spelled};
 ghost use Rattle.kp_entry.specs.Keeping.{records_in, AreEnds};
 
-use crate::record::{put_record, Record};
+use crate::record::{Record, put_record};
 use kp_model::NoMemory;
 use std::alloc::Global;
 use std::marker::Model;
@@ -46,6 +47,7 @@ impl Model for Records {
 
 impl Records {
     /// No records. Takes no memory.
+    #[tactic(auto, using(crate::proofs::Kepts::none_holds))]
     pub fn new(alloc: Global) -> Records
         ensures { result ≡ [] }
     {
@@ -71,6 +73,7 @@ impl Records {
     }
 
     /// Whether the last one is a base.
+    #[tactic(auto, using(crate::proofs::Kepts::any_in))]
     pub fn has_base(&self) -> bool
         ensures { result ≡ has_base self.now }
     {
@@ -88,6 +91,7 @@ impl Records {
 
     /// Adds a record at the end, with its bytes. Answers `NoMemory`, and changes nothing, also where one of its
     /// numbers is out of its range and where the bytes of all records together would be 2^32 or more.
+    #[tactic(auto, using(crate::proofs::Kepts::push_holds, crate::proofs::Kepts::pushed))]
     pub fn push(&mut self, record: &Record) -> Result<(), NoMemory>
         requires { has_base self.old ≡ false }
         ensures ok { OnOk result (self.new ≡ self.old ++ «record».now ∷ []) }
@@ -95,13 +99,13 @@ impl Records {
     {
         let value = record.copy(self.alloc)?;
         self.items.reserve(1)?;
-        add_bytes(self.alloc, &mut self.bytes, &value)?;
-        let end = self.bytes.len();
+        let end = add_bytes(self.alloc, &mut self.bytes, &value)?;
         self.items.push_reserved(Kept { value, end });
         Ok(())
     }
 
     /// Keeps the first `count` records, or all where there are fewer. Takes no memory.
+    #[tactic(auto, using(crate::proofs::Kepts::keep_holds, crate::proofs::Kepts::taken))]
     pub fn keep(&mut self, count: usize)
         ensures { self.new ≡ take count self.old }
     {
@@ -155,12 +159,13 @@ fn value_at(items: &[Kept], index: usize) -> Option<&Record>
 
 // Whether one of them is a base.
 fn any_base(items: &[Kept]) -> bool
-    ensures { result ≡ has_base (records_in items.now) }
+    ensures { result ≡ list_any (λ k. is_base k.value) items.now }
 {
     items.iter().any(|kept| kept.value.is_base())
 }
 
 // Where the bytes of the first `count` end.
+#[tactic(auto, using(crate::proofs::Kepts::end_before_is, crate::proofs::Kepts::none_before))]
 fn end_before(items: &[Kept], count: usize) -> usize
     requires within { count ≤ length items.now }
     requires ends { AreEnds 0 items.now }
@@ -172,11 +177,12 @@ fn end_before(items: &[Kept], count: usize) -> usize
     items[count - 1].end
 }
 
-// Adds the bytes of the record, or nothing.
-fn add_bytes(alloc: Global, bytes: &mut Vec<u8>, value: &Record) -> Result<(), NoMemory>
+// Adds the bytes of the record and answers where they end, or adds nothing.
+fn add_bytes(alloc: Global, bytes: &mut Vec<u8>, value: &Record) -> Result<usize, NoMemory>
     requires { length bytes.old.items < 2 ^ 32 }
     ensures ok { OnOk result (Added value.now bytes.old.items bytes.new.items) }
     ensures small { OnOk result (length bytes.new.items < 2 ^ 32) }
+    ensures end { IfOk result (λ end. end ≡ length bytes.new.items) }
     ensures err { OnErr result (bytes.new.items ≡ bytes.old.items) }
 {
     let mut added = Vec::new(alloc);
@@ -185,7 +191,7 @@ fn add_bytes(alloc: Global, bytes: &mut Vec<u8>, value: &Record) -> Result<(), N
         return Err(NoMemory);
     }
     bytes.extend_from_slice(&added)?;
-    Ok(())
+    Ok(bytes.len())
 }
 
 // Copies of these.

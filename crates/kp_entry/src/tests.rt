@@ -1,6 +1,6 @@
 //! Entries and records in bytes that were written by hand from the format.
 use crate::record::read_record;
-use crate::{decode, encode, EntryFail, Record, Records};
+use crate::{EntryFail, Record, Records, decode, encode};
 use kp_jute::Reader;
 use kp_model::{Body, Entry};
 use std::alloc::Global;
@@ -19,67 +19,69 @@ const HEAD: &[u8] = b"\0\0\0\0\0\0\0\x03\0\0\0\0\0\0\x03\xe8";
 const CASES: &[Case] = &[
     Case {
         tail: b"\0",
-        fields: &&[16],
+        fields: &[16],
         prints: "Noop",
     },
     Case {
         tail: b"\x01\0\0u0\0\x01\x02\x03\x04\x05\x06\x07\x08\x09\x0a\x0b\x0c\x0d\x0e\x0f\x01\0\0\0\0\0\0\0\x02\0\0\0\0\0\0\0\x05",
-        fields: &&[16, 17, 21, 37, 38, 46],
+        fields: &[16, 17, 21, 37, 38, 46],
         prints: "OpenSession { timeout: 30000, passwd: [0, 1, 2, 3, 4, 5, 6, 7, 8, 9, 10, 11, 12, 13, 14, 15], origin: Origin { node: 1, boot: 2, conn: 5 } }",
     },
     Case {
         tail: b"\x02\0\0\0\0\0\0\0\x01\0\x01\x02\x03\x04\x05\x06\x07\x08\x09\x0a\x0b\x0c\x0d\x0e\x0f\x01\0\0\0\0\0\0\0\x02\0\0\0\0\0\0\0\x05",
-        fields: &&[16, 17, 25, 41, 42, 50],
+        fields: &[16, 17, 25, 41, 42, 50],
         prints: "Attach { session: 1, passwd: [0, 1, 2, 3, 4, 5, 6, 7, 8, 9, 10, 11, 12, 13, 14, 15], origin: Origin { node: 1, boot: 2, conn: 5 } }",
     },
     Case {
         tail: b"\x03\0\0\0\0\0\0\0\x06",
-        fields: &&[16, 17],
+        fields: &[16, 17],
         prints: "Expire { session: 6 }",
     },
     Case {
         tail: b"\x04\0\0\0\0\0\0\0\x01\0\0\0\0\0\0\0\x04\0\0\0\0\0\0\0\x02\x01\0\0\0\x04/app\0\0\0\x02hi\0\0\0\x01\0\0\0\x1f\0\0\0\x05world\0\0\0\x06anyone\0\0\0\x03\x01",
-        fields: &&[16, 17, 25, 33, 41, 42, 50, 56, 60, 64, 73, 83, 87],
+        fields: &[16, 17, 25, 33, 41, 42, 50, 56, 60, 64, 73, 83, 87],
         prints: "Write { session: 1, epoch: 4, seq: 2, cmd: Create { path: Text { inner: \"/app\" }, bytes: Bytes { inner: [104, 105] }, acl: Items { items: [Acl { perms: 31, scheme: Text { inner: \"world\" }, id: Text { inner: \"anyone\" } }] }, flags: 3, stat: true } }",
     },
     Case {
         tail: b"\x04\0\0\0\0\0\0\0\x01\0\0\0\0\0\0\0\x04\0\0\0\0\0\0\0\x02\x02\0\0\0\x02/a\xff\xff\xff\xff",
-        fields: &&[16, 17, 25, 33, 41, 42, 48],
+        fields: &[16, 17, 25, 33, 41, 42, 48],
         prints: "Write { session: 1, epoch: 4, seq: 2, cmd: Delete { path: Text { inner: \"/a\" }, version: 4294967295 } }",
     },
     Case {
         tail: b"\x04\0\0\0\0\0\0\0\x01\0\0\0\0\0\0\0\x04\0\0\0\0\0\0\0\x02\x03\0\0\0\x02/a\0\0\0\x01x\0\0\0\x07",
-        fields: &&[16, 17, 25, 33, 41, 42, 48, 53],
+        fields: &[16, 17, 25, 33, 41, 42, 48, 53],
         prints: "Write { session: 1, epoch: 4, seq: 2, cmd: SetData { path: Text { inner: \"/a\" }, bytes: Bytes { inner: [120] }, version: 7 } }",
     },
     Case {
         tail: b"\x04\0\0\0\0\0\0\0\x01\0\0\0\0\0\0\0\x04\0\0\0\0\0\0\0\x02\x04\0\0\0\x02/a\0\0\0\x01\0\0\0\x1f\0\0\0\x05world\0\0\0\x06anyone\0\0\0\x08",
-        fields: &&[16, 17, 25, 33, 41, 42, 48, 52, 56, 65, 75],
+        fields: &[16, 17, 25, 33, 41, 42, 48, 52, 56, 65, 75],
         prints: "Write { session: 1, epoch: 4, seq: 2, cmd: SetAcl { path: Text { inner: \"/a\" }, acl: Items { items: [Acl { perms: 31, scheme: Text { inner: \"world\" }, id: Text { inner: \"anyone\" } }] }, version: 8 } }",
     },
     Case {
         tail: b"\x04\0\0\0\0\0\0\0\x01\0\0\0\0\0\0\0\x04\0\0\0\0\0\0\0\x02\x05\0\0\0\x02/a\0\0\0\x09",
-        fields: &&[16, 17, 25, 33, 41, 42, 48],
+        fields: &[16, 17, 25, 33, 41, 42, 48],
         prints: "Write { session: 1, epoch: 4, seq: 2, cmd: Check { path: Text { inner: \"/a\" }, version: 9 } }",
     },
     Case {
         tail: b"\x04\0\0\0\0\0\0\0\x01\0\0\0\0\0\0\0\x04\0\0\0\0\0\0\0\x02\x06\0\0\0\x06digest\0\0\0\x03u:p",
-        fields: &&[16, 17, 25, 33, 41, 42, 52],
+        fields: &[16, 17, 25, 33, 41, 42, 52],
         prints: "Write { session: 1, epoch: 4, seq: 2, cmd: Auth { scheme: Text { inner: \"digest\" }, auth: Bytes { inner: [117, 58, 112] } } }",
     },
     Case {
         tail: b"\x04\0\0\0\0\0\0\0\x01\0\0\0\0\0\0\0\x04\0\0\0\0\0\0\0\x02\x07\0\0\0\x04\x01\0\0\0\x02/m\0\0\0\0\0\0\0\0\0\0\0\0\0\x02\0\0\0\x02/a\xff\xff\xff\xff\x03\0\0\0\x02/b\0\0\0\x01y\0\0\0\x01\x05\0\0\0\x02/c\0\0\0\x02",
-        fields: &&[16, 17, 25, 33, 41, 42, 46, 47, 53, 57, 61, 65, 66, 67, 73, 77, 78, 84, 89, 93, 94, 100],
+        fields: &[
+            16, 17, 25, 33, 41, 42, 46, 47, 53, 57, 61, 65, 66, 67, 73, 77, 78, 84, 89, 93, 94, 100,
+        ],
         prints: "Write { session: 1, epoch: 4, seq: 2, cmd: Multi { ops: Items { items: [Create { path: Text { inner: \"/m\" }, bytes: Bytes { inner: [] }, acl: Items { items: [] }, flags: 0, stat: false }, Delete { path: Text { inner: \"/a\" }, version: 4294967295 }, SetData { path: Text { inner: \"/b\" }, bytes: Bytes { inner: [121] }, version: 1 }, Check { path: Text { inner: \"/c\" }, version: 2 }] } } }",
     },
     Case {
         tail: b"\x04\0\0\0\0\0\0\0\x01\0\0\0\0\0\0\0\x04\0\0\0\0\0\0\0\x02\x08\0\0\0\x02/a",
-        fields: &&[16, 17, 25, 33, 41, 42],
+        fields: &[16, 17, 25, 33, 41, 42],
         prints: "Write { session: 1, epoch: 4, seq: 2, cmd: Sync { path: Text { inner: \"/a\" } } }",
     },
     Case {
         tail: b"\x04\0\0\0\0\0\0\0\x01\0\0\0\0\0\0\0\x04\0\0\0\0\0\0\0\x02\x09",
-        fields: &&[16, 17, 25, 33, 41],
+        fields: &[16, 17, 25, 33, 41],
         prints: "Write { session: 1, epoch: 4, seq: 2, cmd: CloseSession }",
     },
 ];
@@ -144,16 +146,43 @@ fn a_cut_entry_is_refused_at_the_cut_field(rt: HostRuntime) -> Result<(), Fail> 
 // Bytes behind term and time, and the place where they are refused.
 const BAD: &[(&[u8], usize)] = &[
     (b"\x05", 16),
-    (b"\x01\0\0\x27\x0f\0\x01\x02\x03\x04\x05\x06\x07\x08\x09\x0a\x0b\x0c\x0d\x0e\x0f\x01\0\0\0\0\0\0\0\x02\0\0\0\0\0\0\0\x05", 17),
-    (b"\x01\0\x01\x86\xa1\0\x01\x02\x03\x04\x05\x06\x07\x08\x09\x0a\x0b\x0c\x0d\x0e\x0f\x01\0\0\0\0\0\0\0\x02\0\0\0\0\0\0\0\x05", 17),
+    (
+        b"\x01\0\0\x27\x0f\0\x01\x02\x03\x04\x05\x06\x07\x08\x09\x0a\x0b\x0c\x0d\x0e\x0f\x01\0\0\0\0\0\0\0\x02\0\0\0\0\0\0\0\x05",
+        17,
+    ),
+    (
+        b"\x01\0\x01\x86\xa1\0\x01\x02\x03\x04\x05\x06\x07\x08\x09\x0a\x0b\x0c\x0d\x0e\x0f\x01\0\0\0\0\0\0\0\x02\0\0\0\0\0\0\0\x05",
+        17,
+    ),
     (b"\x03\x40\0\0\0\0\0\0\x01", 17),
-    (b"\x04\0\0\0\0\0\0\0\x01\0\0\0\0\0\0\0\x04\0\0\0\0\0\0\0\x02\0", 41),
-    (b"\x04\0\0\0\0\0\0\0\x01\0\0\0\0\0\0\0\x04\0\0\0\0\0\0\0\x02\x0a", 41),
-    (b"\x04\0\0\0\0\0\0\0\x01\0\0\0\0\0\0\0\x04\0\0\0\0\0\0\0\x02\x08\0\0\0\x02\xff\xfe", 42),
-    (b"\x04\0\0\0\0\0\0\0\x01\0\0\0\0\0\0\0\x04\0\0\0\0\0\0\0\x02\x07\0\0\0\x01\x04\0\0\0\x02/a\0\0\0\0\0\0\0\0", 46),
-    (b"\x04\0\0\0\0\0\0\0\x01\0\0\0\0\0\0\0\x04\0\0\0\0\0\0\0\x02\x01\0\0\0\x02/a\0\0\0\0\0\0\0\0\0\0\0\0\x02", 60),
-    (b"\x04\0\0\0\0\0\0\0\x01\0\0\0\0\0\0\0\x04\0\0\0\0\0\0\0\x02\x07\xff\xff\xff\xff", 46),
-    (b"\x04\0\0\0\0\0\0\0\x01\0\0\0\0\0\0\0\x04\0\0\0\0\0\0\0\x02\x08\xff\xff\xff\xff/a", 42),
+    (
+        b"\x04\0\0\0\0\0\0\0\x01\0\0\0\0\0\0\0\x04\0\0\0\0\0\0\0\x02\0",
+        41,
+    ),
+    (
+        b"\x04\0\0\0\0\0\0\0\x01\0\0\0\0\0\0\0\x04\0\0\0\0\0\0\0\x02\x0a",
+        41,
+    ),
+    (
+        b"\x04\0\0\0\0\0\0\0\x01\0\0\0\0\0\0\0\x04\0\0\0\0\0\0\0\x02\x08\0\0\0\x02\xff\xfe",
+        42,
+    ),
+    (
+        b"\x04\0\0\0\0\0\0\0\x01\0\0\0\0\0\0\0\x04\0\0\0\0\0\0\0\x02\x07\0\0\0\x01\x04\0\0\0\x02/a\0\0\0\0\0\0\0\0",
+        46,
+    ),
+    (
+        b"\x04\0\0\0\0\0\0\0\x01\0\0\0\0\0\0\0\x04\0\0\0\0\0\0\0\x02\x01\0\0\0\x02/a\0\0\0\0\0\0\0\0\0\0\0\0\x02",
+        60,
+    ),
+    (
+        b"\x04\0\0\0\0\0\0\0\x01\0\0\0\0\0\0\0\x04\0\0\0\0\0\0\0\x02\x07\xff\xff\xff\xff",
+        46,
+    ),
+    (
+        b"\x04\0\0\0\0\0\0\0\x01\0\0\0\0\0\0\0\x04\0\0\0\0\0\0\0\x02\x08\xff\xff\xff\xff/a",
+        42,
+    ),
 ];
 
 #[test]
@@ -164,14 +193,20 @@ fn a_field_out_of_range_is_refused_where_it_begins(rt: HostRuntime) -> Result<()
         assert_eq!(rt; refusal(alloc, &bytes), Some(*at));
     }
     // 2^62 and one more as the term
-    assert_eq!(rt; refusal(alloc, b"\x40\0\0\0\0\0\0\x01\0\0\0\0\0\0\0\0\0"), Some(0));
-    assert_eq!(rt; refusal(alloc, b"\x40\0\0\0\0\0\0\0\0\0\0\0\0\0\0\0\0"), None);
+    assert_eq!(rt;
+        refusal(alloc, b"\x40\0\0\0\0\0\0\x01\0\0\0\0\0\0\0\0\0"),
+        Some(0)
+    );
+    assert_eq!(rt;
+        refusal(alloc, b"\x40\0\0\0\0\0\0\0\0\0\0\0\0\0\0\0\0"),
+        None
+    );
     Ok(())
 }
 
-
 // A vote for server 2 in term 3, the fifth start, an entry that is a no-op, and a truncation to index 9.
-const RECORDS: &[u8] = b"\x01\0\0\0\0\0\0\0\x03\x02\x02\0\0\0\0\0\0\0\x05\x03\0\0\0\0\0\0\0\x03\0\0\0\0\0\0\x03\xe8\0\x04\0\0\0\0\0\0\0\x09";
+const RECORDS: &[u8] =
+    b"\x01\0\0\0\0\0\0\0\x03\x02\x02\0\0\0\0\0\0\0\x05\x03\0\0\0\0\0\0\0\x03\0\0\0\0\0\0\x03\xe8\0\x04\0\0\0\0\0\0\0\x09";
 
 #[test]
 fn records_have_their_bytes(rt: HostRuntime) -> Result<(), Fail> {

@@ -1,5 +1,9 @@
+pub mod AtEnd
+pub mod Cases
 pub mod Combined
 pub mod EndMarks
 pub mod Lengths
+pub mod Loops
 pub mod Numbers
+pub mod Packets
 pub mod Utf8

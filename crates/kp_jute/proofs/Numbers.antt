@@ -10,7 +10,7 @@ use Rattle.std.proofs.Math.Facts.{sfits_to_z, Fits-of_z, Fits-of_lt, Fits-lt-pow
 use Rattle.kp_jute.specs.declared.fault.JuteFail.{JuteFail}
 use Rattle.kp_jute.specs.declared.fault.JuteFail.TheVariants.{Short, BadByte}
 use Rattle.kp_jute.specs.Form.{IsBytes, Takes, front, Lawful, Place, past, ◌>>=◌}
-use Rattle.kp_jute.specs.Jute.{number, number_of, raw_at, number_at, numbers, ints, longs, boolean_in, boolean_at, booleans}
+use Rattle.kp_jute.specs.Jute.{number, number_of, raw_at, number_at, numbers, ints, longs, unsigned, unsigned_of, unsigned_at, unsigneds, unsigned_ints, unsigned_longs, raws, boolean_in, boolean_at, booleans}
 use Rattle.kp_jute.proofs.Combined.{IsBytes-drop, IsBytes-take, bind_ok, guard_ok, ok_is}
 
 -- ---- numbers
@@ -84,6 +84,32 @@ ints_lawful = numbers_lawful w32 (2 ^ 32) wide32
 
 pub longs_lawful : Lawful longs
 longs_lawful = numbers_lawful w64 (2 ^ 64) wide64
+
+-- ---- numbers without a sign, and bytes as they are
+
+pub unsigneds_lawful : (w : Width) (limit : ℕ) → IsWide w limit → Lawful (unsigneds w limit)
+unfolding unsigned_at unsigned_of unsigned
+unsigneds_lawful w limit wide = record {
+  takes = λ p v q fits e.
+      let a = bind_ok (raw_at p.at (byte_len w) p) (λ b. Ok (unsigned_of w b.0, b.1)) (v, q) e in
+      let t = raw_takes p.at (byte_len w) p a.0.0 a.0.1 fits a.1 in
+      subst (λ (x : ℕ × Place). Takes p (unsigned w x.0) x.1 × (x.0 < limit)) (ok_is (unsigned_of w a.0.0, a.0.1) (v, q) a.2) (subst (λ (b : List ℕ). Takes p b a.0.1) (sym (wide.back a.0.0 t.1 t.2)) t.0, wide.below a.0.0 t.2);
+  again = λ v at rest fits.
+      let len = wide.len v in
+      rw (raw_again at at (byte_len w) (to_be_bytes w v) rest len, wide.again v fits, len) refl;
+}
+
+pub unsigned_ints_lawful : Lawful unsigned_ints
+unsigned_ints_lawful = unsigneds_lawful w32 (2 ^ 32) wide32
+
+pub unsigned_longs_lawful : Lawful unsigned_longs
+unsigned_longs_lawful = unsigneds_lawful w64 (2 ^ 64) wide64
+
+pub raws_lawful : (n : ℕ) → Lawful (raws n)
+raws_lawful n = record {
+  takes = λ p v q fits e. let t = raw_takes p.at n p v q fits e in (t.0, t.1);
+  again = λ v at rest fits. raw_again at at n v rest fits ∙ ap (λ (k : ℕ). Ok (v, front (at + k) rest)) (sym fits);
+}
 
 -- ---- booleans
 

@@ -1,5 +1,5 @@
 -- A form of a value: which values have a spelling, the spelling, and how it is read from left to right.
-use Rattle.std.specs.Prelude.{◌≡◌, ℕ, ◌+◌, ◌<◌, List, [], ◌++◌, length, drop, Option, Some, None, Result, Ok, Err}
+use Rattle.std.specs.Prelude.{◌≡◌, ℕ, ◌+◌, ◌<◌, ◌==◌, if◌then◌else◌, List, [], ◌++◌, length, drop, Option, Some, None, IfSome, Result, Ok, Err}
 use Rattle.std.proofs.Common.{get_or}
 use Rattle.std.specs.List.{flat_map, AllByRecursion}
 use Rattle.kp_jute.specs.declared.fault.JuteFail.{JuteFail}
@@ -72,6 +72,55 @@ chosen tag f g = record {
   read = λ p. f.read p >>= λ x. (g x.0).read x.1;
 }
 
+-- a field that tells which case follows, and the form of that case
+abbrev pub tagged : {A : Type 0} {B : A → Type 0} → Form A → ((a : A) → Form (B a)) → Form ((a : A) × B a)
+tagged {A} {B} f g = record {
+  Fits = λ v. f.Fits v.0 × (g v.0).Fits v.1;
+  spell = λ v. f.spell v.0 ++ (g v.0).spell v.1;
+  read = λ p. f.read p >>= λ x. (g x.0).read x.1 >>= λ y. Ok ((x.0, y.0), y.1);
+}
+
+-- what a field that began at a place stands for, or its refusal there
+abbrev pub meant_at : {B : Type 0} → ℕ → Place → Option B → Result (B × Place) JuteFail
+meant_at at q None = Err (BadByte at)
+meant_at at q (Some b) = Ok (b, q)
+
+-- the values of a form that stand for something; any other is refused where it begins
+abbrev pub narrowed : {A B : Type 0} → (A → Option B) → (B → A) → Form A → Form B
+narrowed to from f = record {
+  Fits = λ b. f.Fits (from b) × (to (from b) ≡ Some b);
+  spell = λ b. f.spell (from b);
+  read = λ p. f.read p >>= λ x. meant_at p.at x.1 (to x.0);
+}
+
+-- a value that may not be missing: null is refused where it begins
+abbrev pub present : {A : Type 0} → Form (Option A) → Form A
+present {A} f = narrowed (λ (o : Option A). o) (λ (a : A). Some a) f
+
+-- a value, or nothing where no bytes are left
+abbrev pub if_any : {A : Type 0} → Form A → Form (Option A)
+if_any f = record {
+  Fits = λ o. IfSome o f.Fits;
+  spell = spelled_if f;
+  read = λ p. if length p.rest == 0 then Ok (None, p) else f.read p >>= λ x. Ok (Some x.0, x.1);
+}
+
+-- all bytes that are left
+abbrev pub remains : Form (List ℕ)
+remains = record {
+  Fits = λ _. Unit {0};
+  spell = λ bytes. bytes;
+  read = λ p. Ok (p.rest, front (p.at + length p.rest) []);
+}
+
+-- the value, where no bytes are left behind it; the first of them is refused
+abbrev pub ended : {A : Type 0} → Result (A × Place) JuteFail → Result A JuteFail
+ended read = read >>= λ x. if length x.1.rest == 0 then Ok x.0 else Err (BadByte x.1.at)
+
+-- the value that all of the bytes spell
+abbrev pub whole : {A : Type 0} → Form A → List ℕ → Result A JuteFail
+whole f bytes = ended (f.read (front 0 bytes))
+
 -- ---- what a call of a reader has to do with a reading
 
 -- the refusal is that of the reading, where it isn't for want of memory
@@ -127,3 +176,8 @@ pub record Takes (p : Place) (text : List ℕ) (q : Place) : Type 0 where
 pub record Lawful {A : Type 0} (f : Form A) : Type 0 where
   pub takes : (p : Place) (v : A) (q : Place) → IsBytes p.rest → f.read p ≡ Ok (v, q) → Takes p (f.spell v) q × f.Fits v
   pub again : (v : A) (at : ℕ) (rest : List ℕ) → f.Fits v → f.read (front at (f.spell v ++ rest)) ≡ Ok (v, front (at + length (f.spell v)) rest)
+
+-- the same of a form that takes all bytes that are left, or that looks whether there are any
+pub record LawfulAtEnd {A : Type 0} (f : Form A) : Type 0 where
+  pub takes : (p : Place) (v : A) (q : Place) → IsBytes p.rest → f.read p ≡ Ok (v, q) → Takes p (f.spell v) q × f.Fits v
+  pub again : (v : A) (at : ℕ) → f.Fits v → f.read (front at (f.spell v)) ≡ Ok (v, front (at + length (f.spell v)) [])

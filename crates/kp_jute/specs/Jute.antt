@@ -1,11 +1,12 @@
 -- The primitives of jute, the record format of ZooKeeper's protocol: numbers, booleans, buffers, texts and vectors.
-use Rattle.std.specs.Prelude.{◌≡◌, ℕ, zero, suc, ◌+◌, ◌^◌, ◌<◌, ℤ, pos, negsuc, Bool, true, false, List, [], ◌∷◌, ◌++◌, length, take, Option, Some, None, IfSome, Result, Ok, Err, nat_lt, if◌then◌else◌, FitsSigned}
+use Rattle.std.specs.Prelude.{◌≡◌, ℕ, zero, suc, ◌+◌, ◌^◌, ◌<◌, ℤ, pos, negsuc, Bool, true, false, List, [], ◌∷◌, ◌++◌, length, take, Option, Some, None, IfSome, Result, Ok, Err, nat_lt, not, if◌then◌else◌, FitsSigned}
 use Rattle.std.specs.Int.{Width, w32, w64, byte_len, from_be_bytes, to_be_bytes, cast_signed, cast_unsigned}
 use Rattle.std.specs.List.{flat_map, AllByRecursion}
+use Rattle.std.specs.Ordering.{int_eq}
 use Rattle.std.specs.Str.{is_utf8}
 use Rattle.kp_jute.specs.declared.fault.JuteFail.{JuteFail}
 use Rattle.kp_jute.specs.declared.fault.JuteFail.TheVariants.{Short, BadLength, BadByte}
-use Rattle.kp_jute.specs.Form.{Place, front, past, Reading, ◌>>=◌, Form}
+use Rattle.kp_jute.specs.Form.{Place, front, past, Reading, ◌>>=◌, Form, narrowed, ended}
 
 -- ---- numbers: big-endian, in two's complement
 
@@ -33,6 +34,35 @@ ints = numbers w32
 
 abbrev pub longs : Form ℤ
 longs = numbers w64
+
+-- ---- unsigned numbers: big-endian
+
+unfoldable pub unsigned : Width → ℕ → List ℕ
+unsigned w n = to_be_bytes w n
+
+unfoldable pub unsigned_of : Width → List ℕ → ℕ
+unsigned_of w bytes = from_be_bytes w bytes
+
+unfoldable pub unsigned_at : Width → Reading ℕ
+unsigned_at w p = do
+  b ← raw_at p.at (byte_len w) p
+  Ok (unsigned_of w b.0, b.1)
+
+-- those below the limit of the width
+abbrev pub unsigneds : Width → ℕ → Form ℕ
+unsigneds w limit = record { Fits = λ n. n < limit; spell = unsigned w; read = unsigned_at w }
+
+-- the bytes of an int and of a long, as numbers without a sign
+abbrev pub unsigned_ints : Form ℕ
+unsigned_ints = unsigneds w32 (2 ^ 32)
+
+abbrev pub unsigned_longs : Form ℕ
+unsigned_longs = unsigneds w64 (2 ^ 64)
+
+-- ---- n bytes as they are
+
+abbrev pub raws : ℕ → Form (List ℕ)
+raws n = record { Fits = λ bytes. length bytes ≡ n; spell = λ bytes. bytes; read = λ p. raw_at p.at n p }
 
 -- ---- booleans: one byte, 0 or 1
 
@@ -154,3 +184,54 @@ untils f = record {
   spell = λ xs. flat_map (λ x. f.spell (Some x)) xs ++ f.spell None;
   read = λ p. until_at f.read (suc (length p.rest)) p;
 }
+
+-- ---- packets: an int length and a record of exactly that many bytes
+
+abbrev pub present_length : ℕ → Option ℕ → Result ℕ JuteFail
+present_length at None = Err (BadLength at)
+present_length at (Some n) = Ok n
+
+-- the bytes of the packet, by themselves; reading goes on behind them
+unfoldable pub packet_at : Reading Place
+packet_at p = do
+  c ← count_at p
+  n ← present_length p.at c.0
+  b ← raw_at p.at n c.1
+  Ok (front c.1.at b.0, b.1)
+
+abbrev pub packets : {A : Type 0} → Form A → Form A
+packets f = record {
+  Fits = λ v. (length (f.spell v) < 2 ^ 31) × f.Fits v;
+  spell = λ v. buffer (Some (f.spell v));
+  read = λ p. packet_at p >>= λ x. ended (f.read x.0) >>= λ v. Ok (v, x.1);
+}
+
+-- the place of a length that isn't known yet
+abbrev pub gap : List ℕ
+gap = 0 ∷ 0 ∷ 0 ∷ 0 ∷ []
+
+-- ---- fields that hold one value only
+
+abbrev pub only_if : Bool → Option (Unit {0})
+only_if true = Some tt
+only_if false = None
+
+abbrev pub fixed_ints : ℤ → Form (Unit {0})
+fixed_ints z = narrowed (λ x. only_if (int_eq x z)) (λ _. z) ints
+
+abbrev pub same_boolean : Bool → Bool → Bool
+same_boolean true b = b
+same_boolean false b = not b
+
+abbrev pub fixed_booleans : Bool → Form (Unit {0})
+fixed_booleans b = narrowed (λ x. only_if (same_boolean x b)) (λ _. b) booleans
+
+-- ---- a field behind the one that says which it is, as an example
+
+abbrev pub IntOrText : Bool → Type 0
+IntOrText true = ℤ
+IntOrText false = Option (List ℕ)
+
+abbrev pub int_or_text : (b : Bool) → Form (IntOrText b)
+int_or_text true = ints
+int_or_text false = texts

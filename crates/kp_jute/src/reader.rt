@@ -1,9 +1,9 @@
 //! Reading from left to right.
 
-ghost use Rattle.std.specs.Prelude.{◌≡◌, ◌≤◌, ◌==◌, length, drop, OnErr, IfErr, IfOk, option_map, string_bytes};
+ghost use Rattle.std.specs.Prelude.{◌≡◌, ◌≤◌, ◌==◌, length, drop, take, Ok, OnErr, IfErr, IfOk, option_map, string_bytes};
 ghost use Rattle.std.specs.Int.{w32, w64};
-ghost use Rattle.kp_jute.specs.Form.{Gives, Answers, IsOfBytes, Place};
-ghost use Rattle.kp_jute.specs.Jute.{number_of, raw_at, ints, longs, booleans, counts, buffers, texts, count_of, bytes_in, valid_text};
+ghost use Rattle.kp_jute.specs.Form.{Gives, Answers, IsOfBytes, Place, ended};
+ghost use Rattle.kp_jute.specs.Jute.{number_of, raw_at, raws, unsigned_of, unsigned_ints, unsigned_longs, packet_at, present_length, ints, longs, booleans, counts, buffers, texts, count_of, bytes_in, valid_text};
 
 use crate::fault::JuteFail;
 use std::alloc::Global;
@@ -49,6 +49,60 @@ impl<'a> Reader<'a> {
         self.place == self.bytes.len()
     }
 
+    /// How many bytes are left.
+    pub fn remaining(&self) -> usize
+        ensures { result ≡ length self.now.rest }
+    {
+        self.bytes.len() - self.place
+    }
+
+    /// Lends the bytes that are left.
+    pub fn rest(&self) -> &'a [u8]
+        ensures { result.now ≡ self.now.rest }
+    {
+        let bytes = self.bytes;
+        &bytes[self.place..]
+    }
+
+    /// Looks whether all bytes were read; the first that is left is refused.
+    pub fn end(&self) -> Result<(), JuteFail>
+        ensures { Answers (λ u. u) result (ended (Ok (tt, self.now))) }
+    {
+        if !self.is_at_end() {
+            return Err(JuteFail::BadByte { at: self.place() });
+        }
+        Ok(())
+    }
+
+    /// Reads the next `len` bytes and lends them.
+    pub fn take(&mut self, len: usize) -> Result<&'a [u8], JuteFail>
+        ensures read { Gives (λ s. s.now) result self.new ((raws len).read self.old) }
+        ensures of_bytes { IfErr result (λ e. IsOfBytes e) }
+        ensures err { OnErr result (self.new ≡ self.old) }
+    {
+        let at = self.place();
+        self.field(at, len)
+    }
+
+    /// Reads the length of a packet and steps over the packet; answers a reader of its bytes alone, which
+    /// tells the same places.
+    #[tactic(auto, unfolding(crate::specs::Jute::packet_at))]
+    pub fn packet(&mut self) -> Result<Reader<'a>, JuteFail>
+        ensures read { Gives (λ r. r) result self.new (packet_at self.old) }
+        ensures of_bytes { IfErr result (λ e. IsOfBytes e) }
+        ensures err { OnErr result (self.new ≡ self.old) }
+    {
+        let at = self.place();
+        let mut next = self.copy();
+        let count = next.count()?;
+        let len = length_from(at, count)?;
+        let inner = next.copy();
+        let taken = next.field(at, len as usize)?;
+        let inner = inner.within(taken.len());
+        *self = next;
+        Ok(inner)
+    }
+
     /// Reads an int: 4 bytes, big-endian, in two's complement.
     #[tactic(auto, unfolding(crate::specs::Jute::number_at))]
     pub fn int(&mut self) -> Result<i32, JuteFail>
@@ -58,7 +112,7 @@ impl<'a> Reader<'a> {
     {
         let at = self.place();
         let mut next = self.copy();
-        let front = next.take(at, 4)?;
+        let front = next.field(at, 4)?;
         let value = int_from(front);
         *self = next;
         Ok(value)
@@ -73,8 +127,38 @@ impl<'a> Reader<'a> {
     {
         let at = self.place();
         let mut next = self.copy();
-        let front = next.take(at, 8)?;
+        let front = next.field(at, 8)?;
         let value = long_from(front);
+        *self = next;
+        Ok(value)
+    }
+
+    /// Reads the 4 bytes of an int as a number without a sign.
+    #[tactic(auto, unfolding(crate::specs::Jute::unsigned_at))]
+    pub fn unsigned_int(&mut self) -> Result<u32, JuteFail>
+        ensures read { Gives (λ x. x) result self.new (unsigned_ints.read self.old) }
+        ensures of_bytes { IfErr result (λ e. IsOfBytes e) }
+        ensures err { OnErr result (self.new ≡ self.old) }
+    {
+        let at = self.place();
+        let mut next = self.copy();
+        let front = next.field(at, 4)?;
+        let value = unsigned_int_from(front);
+        *self = next;
+        Ok(value)
+    }
+
+    /// Reads the 8 bytes of a long as a number without a sign.
+    #[tactic(auto, unfolding(crate::specs::Jute::unsigned_at))]
+    pub fn unsigned_long(&mut self) -> Result<u64, JuteFail>
+        ensures read { Gives (λ x. x) result self.new (unsigned_longs.read self.old) }
+        ensures of_bytes { IfErr result (λ e. IsOfBytes e) }
+        ensures err { OnErr result (self.new ≡ self.old) }
+    {
+        let at = self.place();
+        let mut next = self.copy();
+        let front = next.field(at, 8)?;
+        let value = unsigned_long_from(front);
         *self = next;
         Ok(value)
     }
@@ -172,7 +256,7 @@ impl<'a> Reader<'a> {
                 Ok(None)
             }
             Some(len) => {
-                let bytes = next.take(at, len)?;
+                let bytes = next.field(at, len as usize)?;
                 *self = next;
                 Ok(Some(bytes))
             }
@@ -181,14 +265,15 @@ impl<'a> Reader<'a> {
 
     // Lends the next `len` bytes, which belong to the field that begins at `from`.
     #[tactic(auto, unfolding(crate::specs::Jute::raw_at))]
-    fn take(&mut self, from: usize, len: u32) -> Result<&'a [u8], JuteFail>
+    fn field(&mut self, from: usize, len: usize) -> Result<&'a [u8], JuteFail>
         ensures read { Gives (λ s. s.now) result self.new (raw_at from len self.old) }
         ensures len { IfOk result (λ s. length s.now ≡ len) }
+        ensures enough { IfOk result (λ _. len ≤ length self.old.rest) }
+        ensures first { IfOk result (λ s. s.now ≡ take len self.old.rest) }
         ensures of_bytes { IfErr result (λ e. IsOfBytes e) }
         ensures err { OnErr result (self.new ≡ self.old) }
     {
         let at = self.place;
-        let len = len as usize;
         if self.bytes.len() - at < len {
             return Err(JuteFail::Short { at: from });
         }
@@ -196,6 +281,19 @@ impl<'a> Reader<'a> {
         let taken = &bytes[at..at + len];
         self.place = at + len;
         Ok(taken)
+    }
+
+    // A reader of the next `len` bytes alone.
+    #[tactic(auto, using(crate::proofs::Packets::part_of))]
+    fn within(&self, len: usize) -> Reader<'a>
+        requires { len ≤ length self.now.rest }
+        ensures { result ≡ record { at = self.now.at; rest = take len self.now.rest } }
+    {
+        let bytes = self.bytes;
+        Reader {
+            bytes: &bytes[..self.place + len],
+            place: self.place,
+        }
     }
 
     fn copy(&self) -> Reader<'a>
@@ -221,6 +319,16 @@ fn count_from(at: usize, number: i32) -> Result<Option<u32>, JuteFail>
     Ok(Some(number as u32))
 }
 
+fn length_from(at: usize, count: Option<u32>) -> Result<u32, JuteFail>
+    ensures answer { Answers (λ x. x) result (present_length at count) }
+    ensures of_bytes { IfErr result (λ e. IsOfBytes e) }
+{
+    match count {
+        None => Err(JuteFail::BadLength { at }),
+        Some(len) => Ok(len),
+    }
+}
+
 #[tactic(auto, unfolding(crate::specs::Jute::number_of))]
 fn int_from(front: &[u8]) -> i32
     requires { length front.now ≡ 4 }
@@ -235,6 +343,24 @@ fn long_from(front: &[u8]) -> i64
     ensures { result ≡ number_of w64 front.now }
 {
     i64::from_be_bytes([
+        front[0], front[1], front[2], front[3], front[4], front[5], front[6], front[7],
+    ])
+}
+
+#[tactic(auto, unfolding(crate::specs::Jute::unsigned_of))]
+fn unsigned_int_from(front: &[u8]) -> u32
+    requires { length front.now ≡ 4 }
+    ensures { result ≡ unsigned_of w32 front.now }
+{
+    u32::from_be_bytes([front[0], front[1], front[2], front[3]])
+}
+
+#[tactic(auto, unfolding(crate::specs::Jute::unsigned_of))]
+fn unsigned_long_from(front: &[u8]) -> u64
+    requires { length front.now ≡ 8 }
+    ensures { result ≡ unsigned_of w64 front.now }
+{
+    u64::from_be_bytes([
         front[0], front[1], front[2], front[3], front[4], front[5], front[6], front[7],
     ])
 }

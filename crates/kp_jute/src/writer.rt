@@ -1,9 +1,9 @@
 //! Writing at the end.
 
-ghost use Rattle.std.specs.Prelude.{◌≡◌, ◌++◌, ◌^◌, ◌<◌, [], true, Some, OnOk, OnErr, Option, option_map, length};
+ghost use Rattle.std.specs.Prelude.{◌≡◌, ◌++◌, ◌^◌, ◌<◌, ℕ, List, [], true, Some, IfOk, IfErr, OnOk, OnErr, Option, option_map, length, drop, ◌≤◌};
 ghost use Rattle.std.specs.Str.{is_utf8};
 ghost use Rattle.kp_jute.specs.Form.{Wrote};
-ghost use Rattle.kp_jute.specs.Jute.{ints, longs, booleans, counts, buffer, buffers, texts};
+ghost use Rattle.kp_jute.specs.Jute.{ints, longs, unsigned_ints, unsigned_longs, booleans, counts, buffer, buffers, texts, gap};
 
 use crate::memory::NoMemory;
 use std::alloc::Global;
@@ -36,11 +36,65 @@ impl Writer {
         }
     }
 
+    /// A writer for a packet, with 4 bytes of 0 where its length will stand.
+    pub fn for_packet(alloc: Global) -> Result<Writer, NoMemory>
+        ensures { IfOk result (λ w. w ≡ gap) }
+    {
+        let mut writer = Writer::new(alloc);
+        writer.raw(&[0, 0, 0, 0])?;
+        Ok(writer)
+    }
+
+    /// The packet of what was written behind the gap for its length, with the length in it. Takes no memory:
+    /// answers `NoMemory` only where more than 2^31 - 1 bytes stand behind the gap, or there is no gap.
+    #[tactic(auto, unfolding(crate::specs::Jute::number))]
+    pub fn finish_packet(self) -> Result<Vec<u8>, NoMemory>
+        ensures ok { (body : List ℕ) → self ≡ gap ++ body → IfOk result (λ v. (length body < 2 ^ 31) × (v.items ≡ buffer (Some body))) }
+        ensures err { (body : List ℕ) → self ≡ gap ++ body → IfErr result (λ _. 2 ^ 31 ≤ length body) }
+    {
+        let mut bytes = self.bytes;
+        if bytes.len() < 4 || bytes.len() - 4 > MOST as usize {
+            return Err(NoMemory);
+        }
+        let length = (bytes.len() - 4) as i32;
+        fill(&mut bytes, length.to_be_bytes());
+        Ok(bytes)
+    }
+
     /// What was written. Takes no memory.
     pub fn finish(self) -> Vec<u8>
         ensures { result.items ≡ self }
     {
         self.bytes
+    }
+
+    /// Writes the bytes as they are.
+    pub fn raw(&mut self, bytes: &[u8]) -> Result<(), NoMemory>
+        ensures ok { OnOk result (self.new ≡ self.old ++ bytes.now) }
+        ensures err { OnErr result (self.new ≡ self.old) }
+    {
+        self.bytes.extend_from_slice(bytes)?;
+        Ok(())
+    }
+
+    /// Writes the 4 bytes of a number without a sign.
+    #[tactic(auto, unfolding(crate::specs::Jute::unsigned))]
+    pub fn unsigned_int(&mut self, value: u32) -> Result<(), NoMemory>
+        ensures ok { OnOk result (Wrote unsigned_ints value self.old self.new) }
+        ensures err { OnErr result (self.new ≡ self.old) }
+    {
+        self.bytes.extend_from_slice(&value.to_be_bytes())?;
+        Ok(())
+    }
+
+    /// Writes the 8 bytes of a number without a sign.
+    #[tactic(auto, unfolding(crate::specs::Jute::unsigned))]
+    pub fn unsigned_long(&mut self, value: u64) -> Result<(), NoMemory>
+        ensures ok { OnOk result (Wrote unsigned_longs value self.old self.new) }
+        ensures err { OnErr result (self.new ≡ self.old) }
+    {
+        self.bytes.extend_from_slice(&value.to_be_bytes())?;
+        Ok(())
     }
 
     /// Writes an int: 4 bytes, big-endian, in two's complement.
@@ -121,6 +175,18 @@ impl Writer {
             }
         }
     }
+}
+
+// Writes the length over the first four bytes.
+#[tactic(auto, using(crate::proofs::Packets::filled))]
+fn fill(bytes: &mut Vec<u8>, start: [u8; 4])
+    requires { 4 ≤ length bytes.old.items }
+    ensures { bytes.new.items ≡ start ++ drop 4 bytes.old.items }
+{
+    bytes[0] = start[0];
+    bytes[1] = start[1];
+    bytes[2] = start[2];
+    bytes[3] = start[3];
 }
 
 // Adds the length of the field and the field, or nothing.

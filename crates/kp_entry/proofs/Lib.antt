@@ -1,0 +1,11 @@
+pub mod BodyWrites
+pub mod CommandWrites
+pub mod EntryLaws
+pub mod FieldLaws
+pub mod Kepts
+pub mod Lists
+pub mod Raws
+pub mod RecordLaws
+pub mod RecordWrites
+pub mod Utf8
+pub mod Writes

@@ -1,0 +1,149 @@
+//! Reading the fields that the log's formats have in common.
+
+ghost use Rattle.std.specs.Prelude.{◌≡◌, length, IfOk, IsTrue};
+ghost use Rattle.std.specs.Int.{w8};
+ghost use Rattle.kp_jute.specs.Form.{Gives, Answers};
+ghost use Rattle.kp_jute.specs.Jute.{unsigned_of, valid_text};
+ghost use Rattle.kp_model.specs.Grammar.{is_number, is_timeout, is_origin};
+ghost use Rattle.kp_entry.specs.Fields.{u8s, numbers, timeouts, blobs, strings, passwords, origins};
+
+use crate::list::Item;
+use crate::put_fields::{put_text, put_word};
+use kp_jute::{JuteFail, Reader};
+use kp_model::{Acl, Bytes, NoMemory, Origin, Text};
+use std::alloc::Global;
+
+/// The greatest index, term, time, session, epoch and running number.
+const LAST_NUMBER: u64 = 4611686018427387904;
+
+/// The least and the greatest timeout of a session, in milliseconds.
+const LEAST_TIMEOUT: u32 = 10_000;
+
+const GREATEST_TIMEOUT: u32 = 100_000;
+
+/// Reads a byte.
+#[tactic(auto, using(crate::proofs::Raws::raw_len), unfolding(kp_jute::specs::Jute::unsigned_at))]
+pub fn read_byte(reader: &mut Reader<'_>) -> Result<u8, JuteFail>
+    ensures { Gives (λ n. n) result reader.new (u8s.read reader.old) }
+{
+    let bytes = reader.take(1)?;
+    Ok(byte_from(bytes))
+}
+
+/// Reads an index, a term, a time, a session, an epoch or a running number: 8 bytes, at most 2^62.
+pub fn read_number(reader: &mut Reader<'_>) -> Result<u64, JuteFail>
+    ensures read { Gives (λ n. n) result reader.new (numbers.read reader.old) }
+    ensures range { IfOk result (λ n. IsTrue (is_number n)) }
+{
+    let at = reader.place();
+    let number = reader.unsigned_long()?;
+    if number > LAST_NUMBER {
+        return Err(JuteFail::BadByte { at });
+    }
+    Ok(number)
+}
+
+/// Reads a session's timeout: 4 bytes, 10,000 to 100,000 milliseconds.
+pub fn read_timeout(reader: &mut Reader<'_>) -> Result<u32, JuteFail>
+    ensures read { Gives (λ n. n) result reader.new (timeouts.read reader.old) }
+    ensures range { IfOk result (λ n. IsTrue (is_timeout n)) }
+{
+    let at = reader.place();
+    let timeout = reader.unsigned_int()?;
+    if timeout < LEAST_TIMEOUT || timeout > GREATEST_TIMEOUT {
+        return Err(JuteFail::BadByte { at });
+    }
+    Ok(timeout)
+}
+
+/// Reads bytes behind their length. They are copied once, and only where they are all there.
+pub fn read_bytes(alloc: Global, reader: &mut Reader<'_>) -> Result<Bytes, JuteFail>
+    ensures { Gives (λ b. b) result reader.new (blobs.read reader.old) }
+{
+    let bytes = blob(reader)?;
+    let bytes = Vec::from_slice(alloc, bytes)?;
+    Ok(Bytes::from_vec(bytes))
+}
+
+/// Reads a text behind its length. Its bytes are copied once, and only where they are text.
+pub fn read_text(alloc: Global, reader: &mut Reader<'_>) -> Result<Text, JuteFail>
+    ensures { Gives (λ t. t) result reader.new (strings.read reader.old) }
+{
+    let at = reader.place();
+    let bytes = blob(reader)?;
+    let text = text_from(at, bytes)?;
+    let text = String::from_str(alloc, text)?;
+    Ok(Text::from_string(text))
+}
+
+/// Reads a session's password: 16 bytes.
+#[tactic(auto, using(crate::proofs::Raws::raw_len))]
+pub fn read_password(reader: &mut Reader<'_>) -> Result<[u8; 16], JuteFail>
+    ensures { Gives (λ b. b) result reader.new (passwords.read reader.old) }
+{
+    let bytes = reader.take(16)?;
+    let mut passwd = [0; 16];
+    passwd.copy_from_slice(bytes);
+    Ok(passwd)
+}
+
+/// Reads an origin: the server's number, and its boot and connection numbers.
+pub fn read_origin(reader: &mut Reader<'_>) -> Result<Origin, JuteFail>
+    ensures read { Gives (λ o. o) result reader.new (origins.read reader.old) }
+    ensures range { IfOk result (λ o. IsTrue (is_origin o)) }
+{
+    let node = read_byte(reader)?;
+    let boot = read_number(reader)?;
+    let conn = read_number(reader)?;
+    Ok(Origin { node, boot, conn })
+}
+
+impl Item for Acl {
+    ghost use Rattle.kp_entry.specs.Fields.{acls};
+
+    ghost form = { acls };
+
+    fn read(alloc: Global, reader: &mut Reader<'_>) -> Result<Acl, JuteFail> {
+        let perms = reader.unsigned_int()?;
+        let scheme = read_text(alloc, reader)?;
+        let id = read_text(alloc, reader)?;
+        Ok(Acl { perms, scheme, id })
+    }
+
+    fn write(&self, out: &mut Vec<u8>) -> Result<(), NoMemory> {
+        put_word(out, self.perms)?;
+        put_text(out, &self.scheme)?;
+        put_text(out, &self.id)
+    }
+}
+
+// Lends bytes behind their length.
+#[tactic(auto, unfolding(crate::specs::Fields::blob_at, kp_jute::specs::Jute::raw_at))]
+fn blob<'a>(reader: &mut Reader<'a>) -> Result<&'a [u8], JuteFail>
+    ensures { Gives (λ s. s.now) result reader.new (blobs.read reader.old) }
+{
+    let at = reader.place();
+    let len = reader.unsigned_int()? as usize;
+    if reader.remaining() < len {
+        return Err(JuteFail::Short { at });
+    }
+    reader.take(len)
+}
+
+#[tactic(auto, using(crate::proofs::Utf8::is_valid, crate::proofs::Utf8::is_invalid))]
+fn text_from(at: usize, bytes: &[u8]) -> Result<&str, JuteFail>
+    ensures { Answers (λ s. s.now) result (valid_text at bytes.now) }
+{
+    match std::str::from_utf8(bytes) {
+        Err(_) => Err(JuteFail::BadByte { at }),
+        Ok(text) => Ok(text),
+    }
+}
+
+#[tactic(auto, unfolding(kp_jute::specs::Jute::unsigned_of))]
+fn byte_from(bytes: &[u8]) -> u8
+    requires { length bytes.now ≡ 1 }
+    ensures { result ≡ unsigned_of w8 bytes.now }
+{
+    bytes[0]
+}

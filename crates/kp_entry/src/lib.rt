@@ -1,0 +1,33 @@
+//! Log entries and records as bytes.
+#![tactic(auto)]
+
+mod body;
+mod command;
+mod entry;
+mod fail;
+mod fields;
+mod kinds;
+mod list;
+mod promises;
+mod put_body;
+mod put_command;
+mod put_fields;
+mod record;
+mod records;
+#[cfg(test)]
+mod tests;
+
+pub use body::read_entry;
+pub use entry::{decode, encode};
+pub use fail::EntryFail;
+pub use fields::{
+    read_byte, read_bytes, read_number, read_origin, read_password, read_text, read_timeout,
+};
+pub use list::{Item, put_list, read_list};
+pub use promises::{laws, no_entry_begins_another};
+pub use put_body::put_entry;
+pub use put_fields::{
+    put_byte, put_bytes, put_number, put_origin, put_password, put_text, put_timeout, put_word,
+};
+pub use record::{Record, put_record, read_record};
+pub use records::Records;

@@ -9,7 +9,7 @@ use Rattle.std.proofs.lemmas.List.{map-append}
 use Rattle.std.proofs.lemmas.Bool.{eqb-true, lt-ltb, le-ltb}
 use Rattle.std.proofs.Math.Bool.{◌||◌, or-true}
 use Rattle.std.proofs.Math.Dec.{ltb}
-use Rattle.kp_layers.specs.declared.history.Cell.{Cell}
+use Rattle.kp_layers.specs.declared.cells.Cell.{Cell}
 use Rattle.kp_layers.specs.declared.history.Write.{Write}
 use Rattle.kp_layers.specs.Overlay.{put, overlay, Past}
 use Rattle.kp_layers.specs.Chains.{place, place_before, shown, base_of, committed_in, newest_in, holds, HasChains, ChangesNewest, Renumbers, Commits}

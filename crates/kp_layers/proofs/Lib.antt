@@ -4,3 +4,5 @@ pub mod Cuts
 pub mod Latest
 pub mod Used
 pub mod Listed
+pub mod Counted
+pub mod InGroups

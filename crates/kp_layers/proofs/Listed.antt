@@ -11,6 +11,7 @@ use Rattle.std.specs.FinMap as fin
 use Rattle.std.specs.FinMap.{FinMap, find, is_sorted, nat_cmp-IsAntisymmetric}
 use Rattle.std.specs.FinMap.Entries.{below_all, same_entries}
 use Rattle.std.proofs.lemmas.List.Sorted.{list_any-IsPermutation, IsNonDecreasingBy-from_sort}
+use Rattle.std.proofs.lemmas.List.Kept.{IsStrictlySortedBy-filter}
 use Rattle.std.proofs.lemmas.Map.Keys.{IsDistinct-IsPermutation, IsStrictlyIncreasing-from_distinct, sorted_from_strictly_increasing}
 use Rattle.kp_layers.specs.declared.history.Level.{Level}
 use Rattle.kp_layers.specs.declared.history.Level.TheVariants.{Committed, Latest}
@@ -44,6 +45,10 @@ equal : (r : Ordering) → is_eq r ≡ true → r ≡ Equal
 equal Less h = no false refl h
 equal Equal h = refl
 equal Greater h = no false refl h
+
+and-implied : (a b : Bool) → (a ≡ true → b ≡ true) → a && b ≡ a
+and-implied true b h = h refl
+and-implied false b h = refl
 
 -- keys as the entries of a set
 abbrev marks : {K : Type 0} → List K → List (K × Unit {0})
@@ -89,13 +94,6 @@ module _ {K : Type 0} (R : K → K → Ordering) where
         (λ q. find-marks q xs ∙ ap (λ b. cond b (Some (tt {0})) None) (h.members q ∙ sym (g.members q)) ∙ sym (find-marks q ys)))
         ∙ keys-marks ys
 
-    -- the keys of a map
-    pub keys_listed : {X : Type 0} (m : FinMap R X) (f : K → Bool) (ks : List K) → Lists R f ks → ((q : K) → f q ≡ fin.contains_key m q) → ks ≡ fin.keys m
-    keys_listed m f ks h is = same_lists f ks (fin.keys m) h record {
-      sorted = sorted_keys (fin.entries m) (fin.entries_sorted m);
-      members = λ q. sym (fin.contains_key-keys m q) ∙ sym (is q);
-    }
-
     one_more : (p : K → Bool) (q k : K) (ks : List K) (c b : Bool) → p k ≡ c → eq_by_cmp R q k ≡ b → list_any (eq_by_cmp R q) (filter p ks) ≡ p q && list_any (eq_by_cmp R q) ks → list_any (eq_by_cmp R q) (cond c (k ∷ filter p ks) (filter p ks)) ≡ p q && (b || list_any (eq_by_cmp R q) ks)
     one_more p q k ks true true has is h = ap (λ b. b || list_any (eq_by_cmp R q) (filter p ks)) is ∙ sym (ap (λ b. b && true) (ap p (a q k (equal _ is)) ∙ has))
     one_more p q k ks true false has is h = ap (λ b. b || list_any (eq_by_cmp R q) (filter p ks)) is ∙ h
@@ -111,6 +109,22 @@ module _ {K : Type 0} (R : K → K → Ordering) where
       and_false true = refl
       and_false false = refl
     any-filter p q (k ∷ ks) = one_more p q k ks (p k) (eq_by_cmp R q k) refl refl (any-filter p q ks)
+
+    -- the keys of a map that pass a test
+    pub filtered_listed : {X : Type 0} (m : FinMap R X) (p : K → Bool) (ks : List K) → IsStrictlySortedBy R ks → ((q : K) → p q ≡ true → fin.contains_key m q ≡ true) → ((q : K) → p q ≡ true → list_any (eq_by_cmp R q) ks ≡ true) → filter p ks ≡ filter p (fin.keys m)
+    filtered_listed m p ks sorted inside listed = same_lists p (filter p ks) (filter p (fin.keys m))
+        record { sorted = IsStrictlySortedBy-filter R p ks sorted; members = λ q. any-filter p q ks ∙ and-implied (p q) _ (listed q) }
+        record {
+          sorted = IsStrictlySortedBy-filter R p (fin.keys m) (sorted_keys (fin.entries m) (fin.entries_sorted m));
+          members = λ q. any-filter p q (fin.keys m) ∙ and-implied (p q) _ (λ e. sym (fin.contains_key-keys m q) ∙ inside q e);
+        }
+
+    -- the keys of a map
+    pub keys_listed : {X : Type 0} (m : FinMap R X) (f : K → Bool) (ks : List K) → Lists R f ks → ((q : K) → f q ≡ fin.contains_key m q) → ks ≡ fin.keys m
+    keys_listed m f ks h is = same_lists f ks (fin.keys m) h record {
+      sorted = sorted_keys (fin.entries m) (fin.entries_sorted m);
+      members = λ q. sym (fin.contains_key-keys m q) ∙ sym (is q);
+    }
 
 -- the same test on both sides
 pub any_same : {K : Type 0} (f g : K → Bool) → ((x : K) → f x ≡ g x) → (xs : List K) → list_any f xs ≡ list_any g xs
@@ -140,6 +154,12 @@ module _ (p : ℕ → Bool) (all taken left rest : List ℕ) (k : ℕ) where
 pub walk_ends : (p : ℕ → Bool) (all taken left : List ℕ) → filter p all ≡ taken ++ filter p left → left ≡ [] → filter p all ≡ taken
 walk_ends p all taken left h is = h ∙ ap (λ l. taken ++ filter p l) is ∙ append-nil taken
 
+pub walk_finds_none : (p : ℕ → Bool) (all left rest : List ℕ) (k : ℕ) → list_any p all ≡ list_any p left → left ≡ k ∷ rest → p k ≡ false → list_any p all ≡ list_any p rest
+walk_finds_none p all left rest k h is fails = h ∙ ap (list_any p) is ∙ ap (λ b. b || list_any p rest) fails
+
+pub walk_finds : (p : ℕ → Bool) (all left rest : List ℕ) (k : ℕ) → list_any p all ≡ list_any p left → left ≡ k ∷ rest → p k ≡ true → list_any p all ≡ true
+walk_finds p all left rest k h is passes = h ∙ ap (list_any p) is ∙ ap (λ b. b || list_any p rest) passes
+
 all-filter : {K : Type 0} (P : K → Type 0) (p : K → Bool) (xs : List K) → AllByRecursion P xs → AllByRecursion P (filter p xs)
 all-filter P p [] h = tt
 all-filter P p (x ∷ xs) h = elim (p x) as (λ b. AllByRecursion P (cond b (x ∷ filter p xs) (filter p xs))) [ true ↦ (h.0, all-filter P p xs h.1) | false ↦ all-filter P p xs h.1 ]
@@ -152,10 +172,6 @@ distinct-filter e p (x ∷ xs) h = elim (p x) as (λ b. IsDistinct e (cond b (x 
 or-either : (a b : Bool) → a ≡ true → a || b ≡ true
 or-either true b h = refl
 or-either false b h = no false refl h
-
-and-implied : (a b : Bool) → (a ≡ true → b ≡ true) → a && b ≡ a
-and-implied true b h = h refl
-and-implied false b h = refl
 
 module _ {V : Type 0} where
   -- a key with a value is in use

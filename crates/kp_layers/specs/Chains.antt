@@ -5,7 +5,7 @@ use Rattle.std.specs.FinMap as fin
 use Rattle.std.specs.FinMap.{FinMap}
 use Rattle.std.specs.Map.{lookup}
 use Rattle.kp_layers.specs.Overlay.{put}
-use Rattle.kp_layers.specs.declared.history.Cell.{Cell}
+use Rattle.kp_layers.specs.declared.cells.Cell.{Cell}
 use Rattle.kp_layers.specs.declared.history.Write.{Write}
 
 -- one more than the place behind, or 1 where there is none behind and this is a write of the key

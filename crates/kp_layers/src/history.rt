@@ -2,17 +2,21 @@
 ghost use Rattle.std.specs.Prelude.{Option, ◌≡◌, ℕ, ◌+◌, ◌-◌, ◌≤◌, ◌<◌, ◌++◌, ◌∷◌, [], length, OnOk, OnErr, IfOk, nat_eq, ◌^◌, Some, None, IsSome, take, drop};
 ghost use Rattle.std.specs.FinMap as map;
 ghost use Rattle.std.specs.Option.{option_copied};
-ghost use Rattle.std.specs.HashMap.{get, IsUnchanged};
-ghost use Rattle.kp_layers.specs.Chains.{committed_in, newest_in, holds, ChangesNewest, ChangesCommitted, Removes, Renumbers, Commits};
 ghost use Rattle.kp_layers.specs.Overlay.{put, overlay, newest_of, commit_first, empty_past};
 ghost use Rattle.std.specs.List.{IsDistinct, list_any};
 ghost use Rattle.std.specs.Ordering.{nat_cmp};
 ghost use Rattle.kp_layers.specs.Listed.{Lists, at_level};
 ghost use Rattle.kp_layers.specs.Used.{is_known};
+ghost use Rattle.std.specs.BTreeMap as tree;
+ghost use Rattle.std.specs.List.{filter};
+ghost use Rattle.kp_layers.specs.Grouped.{is_in};
 
 use crate::NoMemory;
+use crate::cells::{Cell, commit_cell, number_cell, renumber_cell};
+use crate::grouping::{Grouping, group_of};
+use crate::index::Index;
 use std::alloc::{AllocError, Global};
-use std::collections::{HashMap, VecDeque};
+use std::collections::{BTreeMap, HashMap, VecDeque};
 use std::marker::Model;
 
 /// Which of its writes a map is seen under.
@@ -22,13 +26,6 @@ pub enum Level {
     Committed,
     /// All of them.
     Latest,
-}
-
-/// What is known of one key: its value in the base map, and the number of its newest write.
-#[derive(Drop)]
-pub struct Cell<V> {
-    committed: Option<V>,
-    newest: u64,
 }
 
 /// A write, and the number of the write of the same key before it.
@@ -43,122 +40,30 @@ pub struct Write<V> {
 /// cell, and no other key has one. The writes have the numbers from `first + 1` on; a number of at
 /// most `first` names no write. The writes of one key are a chain: its cell names the newest one,
 /// and each write the one before it.
+///
+/// Of the groups of `S`, the index has the keys whose value in the base map or one of whose writes
+/// is of the group.
 #[derive(Drop)]
-pub struct History<V> {
+pub struct History<V, S: Grouping<V>> {
     cells: HashMap<u64, Cell<V>>,
     log: VecDeque<Write<V>>,
     first: u64,
+    index: Index<S::Group>,
 }
 
-impl<V> Model for History<V> {
+impl<V, S: Grouping<V>> Model for History<V, S> {
     ghost use Rattle.kp_layers.specs.Overlay.{Past, past_code};
 
     ghost Value = { Past V };
 
     ghost coded = { past_code V.code };
 
-    ghost use Rattle.kp_layers.specs.Chains.{base_of, shown, HasChains};
+    ghost use Rattle.kp_layers.specs.Chains.{base_of, shown};
+    ghost use Rattle.kp_layers.specs.Grouped.{IsSound};
 
     ghost view = { λ h. record { base = base_of h.cells.entries; writes = shown h.log.items } };
 
-    ghost invariant = { λ h. HasChains h.cells.entries h.log.items h.first };
-}
-
-impl<V> Cell<V> {
-    // Whether there is a committed value, or a write numbered above `first`.
-    fn holds(&self, first: u64) -> bool
-        ensures { result ≡ holds first (Some self.now) }
-    {
-        self.committed.is_some() || first < self.newest
-    }
-}
-
-// Gives the key a cell if it has none, and the number to the cell. Answers the number that it had.
-fn number_cell<V: Drop>(
-    cells: &mut HashMap<u64, Cell<V>>,
-    key: u64,
-    number: u64,
-) -> Result<u64, NoMemory>
-    ensures previous { IfOk result (λ n. n ≡ newest_in (get nat_eq cells.old key)) }
-    ensures ok { OnOk result (ChangesNewest cells.old.entries cells.new.entries key number) }
-    ensures err { OnErr result (IsUnchanged cells.old cells.new) }
-{
-    match cells.entry(key) {
-        Ok(entry) => {
-            let cell = entry.or_insert(Cell {
-                committed: None,
-                newest: 0,
-            });
-            let previous = cell.newest;
-            cell.newest = number;
-            Ok(previous)
-        }
-        Err(_) => Err(AllocError),
-    }
-}
-
-// Gives the cell of the key the number, and tells whether the cell then holds something.
-fn set_newest<V>(cells: &mut HashMap<u64, Cell<V>>, key: u64, number: u64, first: u64) -> bool
-    requires { IsSome (get nat_eq cells.old key) }
-    ensures change { ChangesNewest cells.old.entries cells.new.entries key number }
-    ensures filled { result ≡ holds first (get nat_eq cells.new key) }
-{
-    match cells.get_mut(&key) {
-        Some(cell) => {
-            cell.newest = number;
-            cell.holds(first)
-        }
-        None => true,
-    }
-}
-
-// Makes the value the committed one of the key, and tells whether the cell then holds something.
-fn set_committed<V: Drop>(
-    cells: &mut HashMap<u64, Cell<V>>,
-    key: u64,
-    value: Option<V>,
-    first: u64,
-) -> bool
-    requires { IsSome (get nat_eq cells.old key) }
-    ensures change { ChangesCommitted cells.old.entries cells.new.entries key value }
-    ensures filled { result ≡ holds first (get nat_eq cells.new key) }
-{
-    match cells.get_mut(&key) {
-        Some(cell) => {
-            cell.committed = value;
-            cell.holds(first)
-        }
-        None => true,
-    }
-}
-
-// Takes the cell of the key away.
-fn remove_cell<V: Drop>(cells: &mut HashMap<u64, Cell<V>>, key: u64)
-    ensures { Removes cells.old.entries cells.new.entries key }
-{
-    let _ = cells.remove(&key);
-}
-
-// Gives the cell of the key the number. A cell that then holds nothing goes.
-fn renumber_cell<V: Drop>(cells: &mut HashMap<u64, Cell<V>>, key: u64, number: u64, first: u64)
-    requires { IsSome (get nat_eq cells.old key) }
-    ensures { Renumbers first cells.old.entries cells.new.entries key number }
-{
-    let filled = set_newest(cells, key, number, first);
-    if !filled {
-        remove_cell(cells, key);
-    }
-}
-
-// Makes the value the committed one of the key. A cell that then holds nothing goes.
-fn commit_cell<V: Drop>(cells: &mut HashMap<u64, Cell<V>>, key: u64, value: Option<V>, first: u64)
-    requires { IsSome (get nat_eq cells.old key) }
-    ensures { Commits first cells.old.entries cells.new.entries key value }
-{
-    let filled = set_committed(cells, key, value, first);
-    if !filled {
-        remove_cell(cells, key);
-    }
+    ghost invariant = { λ h. IsSound S.Group.eq S.group_of h.index.groups.entries h.cells.entries h.log.items h.first };
 }
 
 // The keys in their order.
@@ -169,7 +74,7 @@ fn in_order(mut keys: Vec<u64>) -> Vec<u64>
     keys
 }
 
-impl<V> History<V> {
+impl<V, S: Grouping<V>> History<V, S> {
     /// An empty map with no writes.
     pub fn new(alloc: Global) -> Self
         ensures { result ≡ empty_past }
@@ -178,6 +83,7 @@ impl<V> History<V> {
             cells: HashMap::new(alloc),
             log: VecDeque::new(alloc),
             first: 0,
+            index: Index::new(alloc),
         }
     }
 
@@ -252,9 +158,82 @@ impl<V> History<V> {
         }
         Ok(in_order(keys))
     }
+
+    // Whether the key has a value of the group at the level.
+    fn is_in(&self, level: Level, group: S::Group, key: u64) -> bool
+        ensures { result ≡ is_in S.Group.eq S.group_of (at_level level self.now) group key }
+    {
+        match self.value(level, key) {
+            Some(value) => match S::group(value) {
+                Some(own) => own == group,
+                None => false,
+            },
+            None => false,
+        }
+    }
+
+    // Those of the counted keys that have a value of the group at the level.
+    fn those_in(
+        &self,
+        alloc: Global,
+        level: Level,
+        group: S::Group,
+        counts: &BTreeMap<u64, u64>,
+    ) -> Result<Vec<u64>, NoMemory>
+        ensures items { IfOk result (λ ks. ks.items ≡ filter (is_in S.Group.eq S.group_of (at_level level self.now) group) (tree.keys counts.now)) }
+        ensures ordered { tree.IsOrdered nat_cmp counts.now }
+    {
+        let mut keys = Vec::new(alloc);
+        for key in counts.keys() {
+            if self.is_in(level, group, *key) {
+                keys.push(*key)?;
+            }
+        }
+        Ok(keys)
+    }
+
+    /// The keys that have a value of the group at the level, ascending. Costs the keys that the
+    /// index has of the group.
+    pub fn keys_in(
+        &self,
+        alloc: Global,
+        level: Level,
+        group: S::Group,
+    ) -> Result<Vec<u64>, NoMemory>
+        ensures { IfOk result (λ ks. ks.items ≡ filter (is_in S.Group.eq S.group_of (at_level level self.now) group) (map.keys (at_level level self.now))) }
+    {
+        match self.index.counts(group) {
+            Some(counts) => self.those_in(alloc, level, group, counts),
+            None => Ok(Vec::new(alloc)),
+        }
+    }
+
+    // Whether one of the counted keys has a value of the group at the level.
+    fn any_of(&self, level: Level, group: S::Group, counts: &BTreeMap<u64, u64>) -> bool
+        ensures value { result ≡ list_any (is_in S.Group.eq S.group_of (at_level level self.now) group) (tree.keys counts.now) }
+        ensures ordered { tree.IsOrdered nat_cmp counts.now }
+    {
+        for key in counts.keys() {
+            if self.is_in(level, group, *key) {
+                return true;
+            }
+        }
+        false
+    }
+
+    /// Whether a key has a value of the group at the level. Costs at most the keys that the index
+    /// has of the group.
+    pub fn any_in(&self, level: Level, group: S::Group) -> bool
+        ensures { result ≡ list_any (is_in S.Group.eq S.group_of (at_level level self.now) group) (map.keys (at_level level self.now)) }
+    {
+        match self.index.counts(group) {
+            Some(counts) => self.any_of(level, group, counts),
+            None => false,
+        }
+    }
 }
 
-impl<V: Drop> History<V> {
+impl<V: Drop, S: Grouping<V>> History<V, S> {
     /// Adds a write behind the others. After an error nothing has changed.
     pub fn push(&mut self, key: u64, value: Option<V>) -> Result<(), NoMemory>
         ensures ok { OnOk result (self.new ≡ record self.old { writes = self.old.writes ++ (key, value) ∷ [] }) }
@@ -268,7 +247,12 @@ impl<V: Drop> History<V> {
         if self.log.reserve(1).is_err() {
             return Err(AllocError);
         }
-        let previous = number_cell(&mut self.cells, key, self.first + len + 1)?;
+        let group = group_of::<V, S>(&value);
+        self.index.add(group, key)?;
+        let Ok(previous) = number_cell(&mut self.cells, key, self.first + len + 1) else {
+            self.index.take(group, key);
+            return Err(AllocError);
+        };
         self.log.push_back_reserved(Write {
             key,
             value,
@@ -288,7 +272,9 @@ impl<V: Drop> History<V> {
                 value,
                 previous,
             } = write;
+            let group = group_of::<V, S>(&value);
             drop(value);
+            self.index.take(group, key);
             renumber_cell(&mut self.cells, key, previous, self.first);
         }
     }
@@ -305,7 +291,10 @@ impl<V: Drop> History<V> {
                 previous: _,
             } = write;
             self.first += 1;
-            commit_cell(&mut self.cells, key, value, self.first);
+            let replaced = commit_cell(&mut self.cells, key, value, self.first);
+            let group = group_of::<V, S>(&replaced);
+            drop(replaced);
+            self.index.take(group, key);
         }
     }
 

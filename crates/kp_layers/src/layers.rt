@@ -4,8 +4,11 @@ ghost use Rattle.std.specs.FinMap as map;
 ghost use Rattle.std.specs.Option.{option_copied};
 ghost use Rattle.kp_layers.specs.Layering.{latest_of, staged_of, empty_layering, begun, written, undone, sealed, abandoned, front_committed, back_dropped};
 ghost use Rattle.kp_layers.specs.Used.{is_used};
+ghost use Rattle.std.specs.List.{filter, list_any};
+ghost use Rattle.kp_layers.specs.Grouped.{is_in};
 
 use crate::NoMemory;
+use crate::grouping::{Grouping, Ungrouped};
 use crate::history::{History, Level};
 use std::alloc::{AllocError, Global};
 use std::collections::VecDeque;
@@ -18,17 +21,23 @@ use std::marker::Model;
 /// A look-up costs the same whatever the number of layers. `undo_to`, `seal`, `abandon`,
 /// `commit_front` and `drop_back` take no memory, and cost the writes that they move or take back.
 /// A key that has neither a value in the base nor a write in a layer takes no room.
+///
+/// The values stand in the groups of `S`, and the keys of a group are listed at their own cost,
+/// whatever else the map holds.
 #[derive(Drop)]
-pub struct Layers<V> {
+pub struct GroupedLayers<V, S: Grouping<V>> {
     // the writes of the sealed layers and then those of the open one
-    history: History<V>,
+    history: History<V, S>,
     // how many writes each sealed layer has
     sealed: VecDeque<usize>,
     // how many the open layer has
     pending: Option<usize>,
 }
 
-impl<V> Model for Layers<V> {
+/// Layers of values that stand in no groups.
+pub type Layers<V> = GroupedLayers<V, Ungrouped>;
+
+impl<V, S: Grouping<V>> Model for GroupedLayers<V, S> {
     ghost use Rattle.std.specs.Ordering.{nat_cmp};
     ghost use Rattle.std.specs.Coded.{coded_ℕ};
     ghost use Rattle.kp_layers.specs.Layering.{Layering, layering_code};
@@ -46,12 +55,12 @@ impl<V> Model for Layers<V> {
     ghost invariant = { λ l. IsCut l.sealed.items l.pending l.history.writes (deque_capacity l.sealed - deque_len l.sealed) };
 }
 
-impl<V> Layers<V> {
+impl<V, S: Grouping<V>> GroupedLayers<V, S> {
     /// An empty map with no layers. Its later growth takes memory from `alloc`.
     pub fn new(alloc: Global) -> Result<Self, NoMemory>
         ensures { IfOk result (λ layers. layers ≡ empty_layering) }
     {
-        Ok(Layers {
+        Ok(GroupedLayers {
             history: History::new(alloc),
             sealed: VecDeque::new(alloc),
             pending: None,
@@ -116,9 +125,41 @@ impl<V> Layers<V> {
     {
         self.history.keys(alloc, Level::Latest)
     }
+
+    /// The keys whose value in the base map is of the group, ascending. Costs the keys with a value
+    /// or a write of the group.
+    pub fn committed_in(&self, alloc: Global, group: S::Group) -> Result<Vec<u64>, NoMemory>
+        ensures { IfOk result (λ ks. ks.items ≡ filter (is_in S.Group.eq S.group_of self.now.base group) (map.keys self.now.base)) }
+    {
+        self.history.keys_in(alloc, Level::Committed, group)
+    }
+
+    /// The keys whose value under all layers is of the group, ascending. Costs the keys with a value
+    /// or a write of the group.
+    pub fn latest_in(&self, alloc: Global, group: S::Group) -> Result<Vec<u64>, NoMemory>
+        ensures { IfOk result (λ ks. ks.items ≡ filter (is_in S.Group.eq S.group_of (latest_of self.now) group) (map.keys (latest_of self.now))) }
+    {
+        self.history.keys_in(alloc, Level::Latest, group)
+    }
+
+    /// Whether a key has a value of the group in the base map. Costs at most the keys with a value or
+    /// a write of the group.
+    pub fn any_committed_in(&self, group: S::Group) -> bool
+        ensures { result ≡ list_any (is_in S.Group.eq S.group_of self.now.base group) (map.keys self.now.base) }
+    {
+        self.history.any_in(Level::Committed, group)
+    }
+
+    /// Whether a key has a value of the group under all layers. Costs at most the keys with a value
+    /// or a write of the group.
+    pub fn any_latest_in(&self, group: S::Group) -> bool
+        ensures { result ≡ list_any (is_in S.Group.eq S.group_of (latest_of self.now) group) (map.keys (latest_of self.now)) }
+    {
+        self.history.any_in(Level::Latest, group)
+    }
 }
 
-impl<V: Drop> Layers<V> {
+impl<V: Drop, S: Grouping<V>> GroupedLayers<V, S> {
     /// Adds a write to the open layer: the key gets the value, or with None goes. After an error
     /// nothing has changed.
     pub fn stage(&mut self, key: u64, value: Option<V>) -> Result<(), NoMemory>

@@ -1,4 +1,4 @@
-ghost use Rattle.std.specs.Prelude.{◌≡◌, IfOk, None};
+ghost use Rattle.std.specs.Prelude.{◌≡◌, IfOk, ◌%◌, Some, None};
 
 use super::*;
 use std::test::Fail;
@@ -50,5 +50,59 @@ fn two_layers_come_and_go(rt: HostRuntime) -> Result<(), Fail> {
     assert!(rt; !layers.is_used(8));
     assert!(rt; !layers.drop_back());
     assert!(rt; !layers.commit_front());
+    Ok(())
+}
+
+// Each number in the group of its last digit.
+struct ByDigit;
+
+impl Grouping<u64> for ByDigit {
+    type Group = u64;
+
+    ghost group_of = { λ v. Some (v % 10) };
+
+    fn group(value: &u64) -> Option<u64> {
+        Some(*value % 10)
+    }
+}
+
+fn grouped(alloc: Global) -> Result<GroupedLayers<u64, ByDigit>, NoMemory>
+    ensures { IfOk result (λ layers. layers.staged ≡ None) }
+{
+    let mut layers = GroupedLayers::new(alloc)?;
+    layers.begin()?;
+    layers.stage(5, Some(11))?;
+    layers.stage(3, Some(21))?;
+    layers.stage(4, Some(12))?;
+    layers.seal();
+    layers.begin()?;
+    layers.stage(3, Some(32))?;
+    layers.stage(5, None)?;
+    layers.seal();
+    Ok(layers)
+}
+
+#[test]
+fn groups_follow_the_values(rt: HostRuntime) -> Result<(), Fail> {
+    let mut layers = grouped(rt.alloc())?;
+    assert!(rt; layers.latest_in(rt.alloc(), 1)?.is_empty());
+    assert!(rt; !layers.any_latest_in(1));
+    assert_eq!(rt;
+        layers.latest_in(rt.alloc(), 2)?.as_slice(),
+        [3, 4].as_slice()
+    );
+    assert!(rt; !layers.any_committed_in(1));
+    assert!(rt; layers.commit_front());
+    assert_eq!(rt;
+        layers.committed_in(rt.alloc(), 1)?.as_slice(),
+        [3, 5].as_slice()
+    );
+    assert!(rt; layers.any_committed_in(1));
+    assert!(rt; layers.drop_back());
+    assert_eq!(rt;
+        layers.latest_in(rt.alloc(), 1)?.as_slice(),
+        [3, 5].as_slice()
+    );
+    assert!(rt; layers.any_latest_in(1));
     Ok(())
 }

@@ -1,7 +1,7 @@
 use Rattle.std.proofs.Common.{ap, ◌∙◌}
 use Rattle.kp_layers.specs.Used.{is_used}
 use Rattle.kp_layers.proofs.Used.{known_is}
-use Rattle.kp_layers.proofs.layers.Layers.is_used.Goals as goal
+use Rattle.kp_layers.proofs.layers.GroupedLayers.is_used.Goals as goal
 
 pub returns : goal.returns
 returns g c =

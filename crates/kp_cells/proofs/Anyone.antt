@@ -1,10 +1,21 @@
 -- Someone is found where one is; and what holds of a result.
-use Rattle.std.proofs.Common.{◌≡◌, ◌<◌, ℕ, zero, suc, Bool, true, false, ◌||◌, [], ◌∷◌, Result, Ok, Err, sym, ap, ◌∙◌, arith}
+use Rattle.std.proofs.Common.{◌≡◌, ◌≢◌, nat_eq, refl, ◌+◌, ◌<◌, ℕ, zero, suc, Bool, true, false, ◌||◌, [], ◌∷◌, Result, Ok, Err, sym, ap, ◌∙◌, arith}
 use Rattle.std.specs.Prelude.{IfOk}
+use Rattle.std.specs.Cmp.{nat_eq_equiv}
+use Rattle.std.proofs.lemmas.Bool.{eqb-true}
+use Rattle.kp_cells.proofs.Maps.{no}
 use Rattle.std.specs.List.{list_any}
 use Rattle.std.proofs.lemmas.List.Folds.{list_any-append}
 use Rattle.kp_cells.specs.Listed.{below}
-use Rattle.kp_cells.proofs.Walked.{below_or_at, left_holds, right_holds}
+use Rattle.kp_cells.proofs.Walked.{left_holds, right_holds}
+
+below_or_at : {A : Type 0} (n i : ℕ) → n < i + 1 → (n < i → A) → (n ≡ i → A) → A
+below_or_at {A = A} n i h f g = cases (nat_eq n i) refl where
+  cases : (b : Bool) → nat_eq n i ≡ b → A
+  cases true e = g (eqb-true n i e)
+  cases false e =
+      let other : n ≢ i = λ s. no (nat_eq n i) e (ap (λ k. nat_eq k i) s ∙ nat_eq_equiv.refl i) in
+      f (omega (arith, h, other))
 
 -- one number below the bound that passes
 pub any_below : (p : ℕ → Bool) (n k : ℕ) → k < n → p k ≡ true → list_any p (below n) ≡ true

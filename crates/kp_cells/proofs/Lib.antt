@@ -8,3 +8,9 @@ pub mod Walked
 pub mod Counted
 pub mod Gathered
 mod Anyone
+pub mod Kinned
+pub mod Forgotten
+pub mod Released
+pub mod Traces
+pub mod Sets
+pub mod Kept

@@ -48,6 +48,17 @@ module _ {Z : Type 0} where
       ∙ sym (text_first (nat_eq number n) path (lookup (nat_eq n) es))
       ∙ ap (cond (nat_eq number n) (Some (string_bytes path))) (sym (get-texts_in es n))
 
+  -- no path for a number
+  no_text_first : (b : Bool) (o : Option (String Z)) → option_map string_bytes (cond b None o) ≡ cond b None (option_map string_bytes o)
+  no_text_first true o = refl
+  no_text_first false o = refl
+
+  pub texts_removed : (es fs : List (ℕ × String Z)) (number : ℕ) → ((n : ℕ) → lookup (nat_eq n) fs ≡ cond (nat_eq number n) None (lookup (nat_eq n) es)) → (n : ℕ) → get (texts_in fs) n ≡ cond (nat_eq number n) None (get (texts_in es) n)
+  texts_removed es fs number h n =
+      get-texts_in fs n ∙ ap (option_map string_bytes) (h n)
+      ∙ no_text_first (nat_eq number n) (lookup (nat_eq n) es)
+      ∙ ap (cond (nat_eq number n) None) (sym (get-texts_in es n))
+
 -- no path has a number
 pub empty_naming : (names : Naming) → names ≡ no_names → IsNaming names × AreBelow 0 names
 empty_naming names e = let P : Naming → Type 0 = λ n. IsNaming n × AreBelow 0 n in subst P (sym e) (
@@ -67,6 +78,17 @@ empty_naming names e = let P : Naming → Type 0 = λ n. IsNaming n × AreBelow 
 pub no_number : (b : Bool) → b ≡ true → b ≡ false → ⊥
 no_number true e h = (cc)
 no_number false e h = (cc)
+
+-- a number above all has no path
+pub fresh_text : (names : Naming) (number : ℕ) → IsNaming names → AreBelow number names → get names.texts number ≡ None
+fresh_text names number h below = here (get names.texts number) refl where
+  here : (r : Option (List ℕ)) → get names.texts number ≡ r → r ≡ None
+  here None e = refl
+  here (Some p) e = absurd (omega (arith, below p number (h.back p number e)))
+
+pub is_error : {T E : Type 0} (r : Result T E) {P : Type 0} → is_err r ≡ true → OnErr r P → P
+is_error (Err x) e p = p
+is_error (Ok x) e p = absurd (no_number false e refl)
 
 pub on_err : {T E : Type 0} (r : Result T E) {P : Type 0} → P → OnErr r P
 on_err (Ok x) p = tt

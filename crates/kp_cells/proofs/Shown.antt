@@ -1,6 +1,6 @@
 -- What the parts have is what is seen of the state that they make.
 use Rattle.std.proofs.Common.{◌≡◌, ℕ, Bool, true, false, cond, List, [], Option, Some, None, refl, ap, sym, ◌∙◌}
-use Rattle.std.specs.Prelude.{map, unwrap_or, ◌==◌}
+use Rattle.std.specs.Prelude.{map, not, unwrap_or, ◌==◌}
 use Rattle.std.specs.List.{filter, list_any}
 use Rattle.std.specs.Option.{option_map, option_map_or}
 use Rattle.std.specs.Cmp.{IsTotalOrder}
@@ -15,12 +15,13 @@ use Rattle.kp_model.specs.Poured.{node_of}
 use Rattle.kp_model.specs.State.{path_cmp, stat, meta_at, bytes_at, acl_at, is_child, children, kids, owned, is_owned, is_held}
 use Rattle.kp_layers.specs.Layering.{latest_of}
 use Rattle.kp_cells.specs.Overlays.{Overlays, latest_parts, committed_parts, latest_state, committed_state}
+use Rattle.kp_cells.specs.Mapped.{kept}
 use Rattle.kp_cells.specs.Parts.{Parts, parts_of, whole, FitTogether}
 use Rattle.kp_cells.specs.Viewed.{AreNumbered, AreShown}
-use Rattle.kp_cells.specs.Listed.{Test, passes, below, is_there, is_held_at}
+use Rattle.kp_cells.specs.Listed.{Test, passes, below, is_held_at}
 use Rattle.kp_cells.proofs.Listed.{same_filter, filter-all}
-use Rattle.kp_cells.proofs.Counted.{sessions_listed, held_found}
-use Rattle.kp_cells.proofs.Maps.{picked, get-mapped}
+use Rattle.kp_cells.proofs.Counted.{held_found}
+use Rattle.kp_cells.proofs.Maps.{picked, passing, get-mapped, get-kept}
 
 pub path_total : IsTotalOrder path_cmp
 path_total = nat_list_cmp_total
@@ -94,13 +95,18 @@ module _ (k : ℕ) (p : Parts) where
   paths_shown = chosen_in (λ _ _. true) (λ _. true) (λ q m e. refl) ∙ filter-all (fin.keys (whole k p).nodes)
 
   module _ (h : AreNumbered p) where
-    pub sessions_shown : filter (is_there p.sessions) (below p.next) ≡ fin.keys (whole k p).sessions
-    unfolding whole
-    sessions_shown = sessions_listed p.sessions p.next h
-
     pub held_shown : (origin : Origin) → list_any (is_held_at p.sessions origin) (below p.next) ≡ is_held (whole k p).sessions origin
     unfolding whole
     held_shown origin = held_found p.sessions p.next origin h
+
+-- a node's owner is the one that is shown of it
+pub owner_shown : (p : Parts) (q : List ℕ) (m : Meta) → FitTogether p → fin.get p.metas q ≡ Some m → (m.owner == 0) ≡ false → fin.get p.owners q ≡ Some m.owner
+unfolding parts_of
+owner_shown p q m h e some =
+    ap (λ z. fin.get z.owners q) h
+    ∙ get-mapped path_total path_same (λ _ (n : Node). n.owner) (kept (λ _ n. not (n.owner == 0)) (whole 0 p).nodes) q
+    ∙ ap (option_map (λ (n : Node). n.owner)) (get-kept path_total path_same (λ _ (n : Node). not (n.owner == 0)) (whole 0 p).nodes q ∙ ap (passing (λ (n : Node). not (n.owner == 0))) (get-whole 0 p q ∙ ap (option_map (node_at p q)) e))
+    ∙ ap (λ b. option_map (λ (n : Node). n.owner) (cond (not b) (Some (node_at p q m)) None)) some
 
 -- in the words of the two views
 module _ (o : Overlays) where
@@ -123,15 +129,9 @@ module _ (o : Overlays) where
   committed_paths = paths_shown _ (committed_parts o)
 
 module _ (o : Overlays) (h : AreShown (latest_parts o)) where
-  pub latest_sessions : filter (is_there (latest_of o.sessions)) (below (latest_parts o).next) ≡ fin.keys (latest_state o).sessions
-  latest_sessions = sessions_shown _ (latest_parts o) h.numbered
-
   pub latest_held : (origin : Origin) → list_any (is_held_at (latest_of o.sessions) origin) (below (latest_parts o).next) ≡ is_held (latest_state o).sessions origin
   latest_held origin = held_shown _ (latest_parts o) h.numbered origin
 
 module _ (o : Overlays) (h : AreShown (committed_parts o)) where
-  pub committed_sessions : filter (is_there o.sessions.base) (below (committed_parts o).next) ≡ fin.keys (committed_state o).sessions
-  committed_sessions = sessions_shown _ (committed_parts o) h.numbered
-
   pub committed_held : (origin : Origin) → list_any (is_held_at o.sessions.base origin) (below (committed_parts o).next) ≡ is_held (committed_state o).sessions origin
   committed_held origin = held_shown _ (committed_parts o) h.numbered origin

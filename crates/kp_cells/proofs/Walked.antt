@@ -1,25 +1,36 @@
--- What a walk over the numbers of paths has found.
-use Rattle.std.proofs.Common.{◌≡◌, ◌≢◌, nat_eq, ℕ, ◌<◌, ◌+◌, Bool, true, false, cond, ◌||◌, List, Option, Some, None, refl, ap, sym, ◌∙◌, arith}
+-- What a walk over numbers of paths has found.
+use Rattle.std.proofs.Common.{◌≡◌, ◌<◌, ◌≤◌, ◌+◌, nat_eq, ℕ, length, take, arith, Bool, true, false, cond, ◌||◌, List, [], ◌∷◌, ◌++◌, Option, Some, None, refl, ap, sym, ◌∙◌}
+use Rattle.std.specs.Prelude.{map, slice_index}
+use Rattle.std.proofs.lemmas.Grind.{common_steps}
 use Rattle.std.specs.Option.{option_map_or, option_and_then}
 use Rattle.std.specs.Str.{bytes_eq}
 use Rattle.std.specs.Ordering.{nat_cmp, eq_by_cmp}
-use Rattle.std.specs.Cmp.{eq_by_cmp_equiv}
+use Rattle.std.specs.Cmp.{eq_by_cmp_equiv, unsigned_tied}
 use Rattle.std.specs.Cmp.Lexicographic.{nat_list_cmp_total}
-use Rattle.kp_model.specs.State.{path_cmp}
+use Rattle.kp_model.specs.State.{path_cmp, is_child}
 use Rattle.kp_cells.proofs.Named.{path_tied}
-use Rattle.std.specs.FinMap.{FinMap, get}
-use Rattle.std.specs.Cmp.{nat_eq_equiv}
+use Rattle.std.specs.FinMap.{FinMap, get, find, keys, entries, get-entries}
+use Rattle.std.proofs.lemmas.List.Folds.{list_any-append}
 use Rattle.std.proofs.lemmas.Bool.{eqb-true}
 use Rattle.std.proofs.lemmas.Slice.Eq.{bytes_eq-Decides}
 use Rattle.kp_model.specs.declared.node.Meta.{Meta}
-use Rattle.kp_cells.specs.Listed.{Test, taken, takes, is_the, passing_path, one_passing}
-use Rattle.kp_cells.specs.Naming.{Naming, IsNaming, AreBelow}
+use Rattle.kp_cells.specs.Listed.{Test, taken, takes, is_the, passing_path, one_passing, AreAmong}
+use Rattle.kp_cells.specs.Traced.{is_in}
+use Rattle.kp_cells.specs.Naming.{Naming, IsNaming}
 use Rattle.kp_cells.proofs.Maps.{no}
+use Rattle.kp_cells.proofs.Forgotten.{nothing_is}
 
--- what is found by the numbers below i: only paths that are taken, and all of them that have such a number
-pub record Walked (f : Test) (names : Naming) (m : FinMap nat_cmp Meta) (i : ℕ) (found : List ℕ → Bool) : Type 0 where
+-- one number more of a list, and all of them
+pub one_taken : (ns : List ℕ) (i : ℕ) → i < length ns → take (i + 1) ns ≡ take i ns ++ slice_index ns i ∷ []
+one_taken ns i h = grind (arith, common_steps)
+
+pub all_taken : (ns : List ℕ) (i : ℕ) → length ns ≤ i → take i ns ≡ ns
+all_taken ns i h = grind (arith, common_steps)
+
+-- what is found by the numbers: only paths that are taken, and all of them that have such a number
+pub record Walked (f : Test) (names : Naming) (m : FinMap nat_cmp Meta) (ns : List ℕ) (found : List ℕ → Bool) : Type 0 where
   pub only : (q : List ℕ) → found q ≡ true → takes f names m q ≡ true
-  pub all : (q : List ℕ) (n : ℕ) → get names.numbers q ≡ Some n → n < i → takes f names m q ≡ true → found q ≡ true
+  pub all : (q : List ℕ) (n : ℕ) → get names.numbers q ≡ Some n → is_in n ns ≡ true → takes f names m q ≡ true → found q ≡ true
 
 either : {A : Type 0} (a b : Bool) → (a || b) ≡ true → (a ≡ true → A) → (b ≡ true → A) → A
 either true b h f g = f refl
@@ -43,17 +54,9 @@ swap false false = refl
 pub added : (p q : List ℕ) (c : Bool) → cond (eq_by_cmp path_cmp p q) true c ≡ (c || bytes_eq q p)
 added p q c = ap (λ b. cond b true c) ((eq_by_cmp_equiv nat_list_cmp_total).symm p q ∙ path_tied q p) ∙ swap (bytes_eq q p) c
 
-pub below_or_at : {A : Type 0} (n i : ℕ) → n < i + 1 → (n < i → A) → (n ≡ i → A) → A
-below_or_at {A = A} n i h f g = cases (nat_eq n i) refl where
-  cases : (b : Bool) → nat_eq n i ≡ b → A
-  cases true e = g (eqb-true n i e)
-  cases false e =
-      let other : n ≢ i = λ s. no (nat_eq n i) e (ap (λ k. nat_eq k i) s ∙ nat_eq_equiv.refl i) in
-      f (omega (arith, h, other))
-
 module _ (f : Test) (names : Naming) (m : FinMap nat_cmp Meta) where
-  pub none_walked : (found : List ℕ → Bool) → ((q : List ℕ) → found q ≡ false) → Walked f names m 0 found
-  none_walked found h = record { only = λ q e. no (found q) (h q) e; all = λ q n e lt t. absurd (omega (arith, lt)) }
+  pub none_walked : (found : List ℕ → Bool) → ((q : List ℕ) → found q ≡ false) → Walked f names m [] found
+  none_walked found h = record { only = λ q e. no (found q) (h q) e; all = λ q n e i t. no false refl i }
 
   module _ (h : IsNaming names) where
     the_takes : (q : List ℕ) (i : ℕ) → is_the q (taken f names m i) ≡ true → takes f names m q ≡ true
@@ -80,21 +83,53 @@ module _ (f : Test) (names : Naming) (m : FinMap nat_cmp Meta) where
           got None s = no false refl s
           got (Some v) s = ap (λ b. is_the q (cond b (Some q) None)) s ∙ (bytes_eq-Decides q q).1 refl
 
-    pub one_walked : (i : ℕ) (found more : List ℕ → Bool) → Walked f names m i found → ((q : List ℕ) → more q ≡ (found q || is_the q (taken f names m i))) → Walked f names m (i + 1) more
-    one_walked i found more w is = record {
+    pub one_walked : (ns : List ℕ) (i : ℕ) (found more : List ℕ → Bool) → Walked f names m ns found → ((q : List ℕ) → more q ≡ (found q || is_the q (taken f names m i))) → Walked f names m (ns ++ i ∷ []) more
+    one_walked ns i found more w is = record {
       only = λ q t. either (found q) (is_the q (taken f names m i)) (sym (is q) ∙ t) (w.only q) (the_takes q i);
-      all = λ q n e lt t. below_or_at n i lt
-          (λ less. is q ∙ left_holds (found q) (is_the q (taken f names m i)) (w.all q n e less t))
-          (λ same. is q ∙ right_holds (found q) (is_the q (taken f names m i)) (takes_the q i (e ∙ ap Some same) t));
+      all = λ q n e among t. either (is_in n ns) (nat_eq n i || false) (sym (list_any-append (nat_eq n) ns (i ∷ [])) ∙ among)
+          (λ before. is q ∙ left_holds (found q) (is_the q (taken f names m i)) (w.all q n e before t))
+          (λ here. is q ∙ right_holds (found q) (is_the q (taken f names m i)) (takes_the q i (e ∙ ap Some (eqb-true n i (either (nat_eq n i) false here (λ same. same) (λ none. no false refl none)))) t));
     }
 
-  -- all numbers are below the bound
-  pub all_walked : (i : ℕ) (found : List ℕ → Bool) → AreBelow i names → Walked f names m i found → (q : List ℕ) → found q ≡ takes f names m q
-  all_walked i found below w q = cases (get names.numbers q) refl (takes f names m q) refl where
+  -- the number of each path that is taken is among those
+  pub all_walked : (ns : List ℕ) (found : List ℕ → Bool) → AreAmong f names m ns → Walked f names m ns found → (q : List ℕ) → found q ≡ takes f names m q
+  all_walked ns found among w q = cases (get names.numbers q) refl (takes f names m q) refl where
     cases : (r : Option ℕ) → get names.numbers q ≡ r → (b : Bool) → takes f names m q ≡ b → found q ≡ b
     cases r e false t = not_found (found q) refl where
       not_found : (c : Bool) → found q ≡ c → c ≡ false
       not_found false s = refl
       not_found true s = no (takes f names m q) t (w.only q s)
     cases None e true t = no false refl (sym (ap (λ r. option_map_or (f q) (option_and_then (get m) r) false) e) ∙ t)
-    cases (Some n) e true t = w.all q n e (below q n e) t
+    cases (Some n) e true t = w.all q n e (among q n e t) t
+
+-- what the map has is at one of its keys
+pub among_keys : {X : Type 0} (m : FinMap nat_cmp X) (n : ℕ) (x : X) → get m n ≡ Some x → is_in n (keys m) ≡ true
+among_keys {X = X} m n x e = in_entries (entries m) (sym (get-entries m n) ∙ e) where
+  here : (k : ℕ) (v : X) (es : List (ℕ × X)) (b : Bool) → cond b (Some v) (find nat_cmp n es) ≡ Some x → (find nat_cmp n es ≡ Some x → is_in n (map (λ e. e.0) es) ≡ true) → (b || is_in n (map (λ e. e.0) es)) ≡ true
+  here k v es true f rest = refl
+  here k v es false f rest = rest f
+
+  in_entries : (es : List (ℕ × X)) → find nat_cmp n es ≡ Some x → is_in n (map (λ e. e.0) es) ≡ true
+  in_entries [] f = absurd (nothing_is f)
+  in_entries (e ∷ es) f =
+      ap (λ b. b || is_in n (map (λ e. e.0) es)) (sym (unsigned_tied n e.0))
+      ∙ here e.0 e.1 es (eq_by_cmp nat_cmp n e.0) f (in_entries es)
+
+module _ (names : Naming) (h : IsNaming names) (m : FinMap nat_cmp Meta) where
+  -- a path that is taken is in the map
+  pub taken_there : (f : Test) (q : List ℕ) (n : ℕ) → get names.numbers q ≡ Some n → takes f names m q ≡ true → option_map_or (f q) (get m n) false ≡ true
+  taken_there f q n e t = sym (ap (λ r. option_map_or (f q) (option_and_then (get m) r) false) e) ∙ t
+
+  -- the numbers of the children of a path
+  pub children_among : (path : List ℕ) (ns : List ℕ) → ((n : ℕ) → is_in n ns ≡ option_map_or (is_child path) (get names.texts n) false) → AreAmong (λ q _. is_child path q) names m ns
+  children_among path ns is q n e t = is n ∙ ap (λ r. option_map_or (is_child path) r false) (h.there q n e) ∙ child (get m n) (taken_there (λ q _. is_child path q) q n e t) where
+    child : (r : Option Meta) → option_map_or (λ _. is_child path q) r false ≡ true → is_child path q ≡ true
+    child None f = no false refl f
+    child (Some v) f = f
+
+  -- all keys of the map
+  pub keys_among : (f : Test) → AreAmong f names m (keys m)
+  keys_among f q n e t = here (get m n) refl (taken_there f q n e t) where
+    here : (r : Option Meta) → get m n ≡ r → option_map_or (f q) r false ≡ true → is_in n (keys m) ≡ true
+    here None g s = no false refl s
+    here (Some v) g s = among_keys m n v g

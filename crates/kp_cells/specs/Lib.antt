@@ -2,6 +2,9 @@ pub mod Mapped
 pub mod Parts
 pub mod Overlays
 pub mod Naming
+pub mod Kin
 pub mod Held
 pub mod Listed
 pub mod Viewed
+pub mod Traced
+pub mod Sides

@@ -1,5 +1,5 @@
 -- Which paths a listing takes, and lists of keys in their order.
-use Rattle.std.specs.Prelude.{◌≡◌, ℕ, Bool, false, cond, List, [], ◌∷◌, ◌++◌, is_some, zero, suc, Option, Some, None}
+use Rattle.std.specs.Prelude.{◌≡◌, ℕ, Bool, true, false, cond, List, [], ◌∷◌, ◌++◌, is_some, zero, suc, Option, Some, None}
 use Rattle.std.specs.List.{list_any}
 use Rattle.std.specs.List.Sorted.{IsStrictlySortedBy}
 use Rattle.std.specs.Option.{option_map_or, option_and_then}
@@ -14,6 +14,7 @@ use Rattle.kp_model.specs.declared.session.Session.{Session}
 use Rattle.kp_model.specs.declared.session.Origin.{Origin}
 use Rattle.kp_model.specs.State.{Sessions, path_cmp, same_origin}
 use Rattle.kp_cells.specs.Naming.{Naming}
+use Rattle.kp_cells.specs.Traced.{is_in}
 
 -- what a part has: under all layers, or below them
 abbrev pub side_of : {K : Type 0} {R : K → K → Ordering} {V : Type 0} → Bool → Layering R V → FinMap R V
@@ -38,6 +39,10 @@ taken f names metas n = passing_path f (fin.get metas n) (fin.get names.texts n)
 -- whether the test takes the node of a path
 abbrev pub takes : Test → Naming → FinMap nat_cmp Meta → List ℕ → Bool
 takes f names metas q = option_map_or (f q) (option_and_then (fin.get metas) (fin.get names.numbers q)) false
+
+-- the number of each path that the test takes is among those
+abbrev pub AreAmong : Test → Naming → FinMap nat_cmp Meta → List ℕ → Type 0
+AreAmong f names metas ns = (q : List ℕ) (n : ℕ) → fin.get names.numbers q ≡ Some n → takes f names metas q ≡ true → is_in n ns ≡ true
 
 -- whether the test takes what the map has at a path
 abbrev pub passes : Test → FinMap path_cmp Meta → List ℕ → Bool

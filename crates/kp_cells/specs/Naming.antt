@@ -1,5 +1,5 @@
 -- Numbers of paths, and layers by those numbers seen as layers by the paths.
-use Rattle.std.specs.Prelude.{◌≡◌, ℕ, ◌<◌, List, [], ◌∷◌, map, Option, Some, unwrap_or, refl, String, string_bytes}
+use Rattle.std.specs.Prelude.{◌≡◌, ℕ, ◌<◌, List, [], ◌∷◌, map, cond, nat_eq, Option, Some, None, unwrap_or, refl, String, string_bytes}
 use Rattle.std.specs.List.{All}
 use Rattle.std.specs.Option.{option_map}
 use Rattle.std.specs.Ordering.{nat_cmp}
@@ -46,6 +46,11 @@ AreBelow next names = (p : List ℕ) (n : ℕ) → fin.get names.numbers p ≡ S
 -- a path that has a number in the old names has it in the new ones
 abbrev pub Grows : Naming → Naming → Type 0
 Grows old new = (p : List ℕ) (n : ℕ) → fin.get old.numbers p ≡ Some n → fin.get new.numbers p ≡ Some n
+
+-- the number that may be there, unless it is k
+abbrev pub without : ℕ → Option ℕ → Option ℕ
+without k None = None
+without k (Some n) = cond (nat_eq k n) None (Some n)
 
 -- the number is that of a path
 abbrev pub Knows : Naming → ℕ → Type 0

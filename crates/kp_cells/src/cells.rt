@@ -8,9 +8,10 @@ ghost use Rattle.kp_model.specs.Path.{is_well_formed, root};
 ghost use Rattle.kp_cells.specs.Overlays.{IsOpen, IsClosed, depth, all_begun, all_sealed, all_abandoned, all_undone, marks_of, all_committed, all_dropped, with_meta, with_content, with_acl, with_child, with_owned, with_owner, with_session, with_next, settled, root_parts, blank_overlays};
 ghost use Rattle.kp_model.specs.State.{meta_of, blank_node, open_acl};
 
-use crate::looks::latest_at;
 use crate::names::Names;
-use crate::pair::{abandon_both, begin_four, begin_three};
+use crate::nodes::{Nodes, release};
+use crate::pair::{abandon_both, begin_four};
+use crate::trail::{Trail, begin_rest};
 use kp_layers::Layers;
 use kp_model::{Acl, Acls, Bytes, Meta, NoMemory, Session, Text};
 use std::alloc::Global;
@@ -21,16 +22,15 @@ use std::marker::Model;
 /// an open layer those of an entry that is being taken in.
 ///
 /// Look-ups take no memory, and cost the same whatever the number of layers. `undo_to`, `seal`,
-/// `abandon`, `commit_front` and `drop_back` take no memory, and cost the writes of that layer.
+/// `abandon`, `commit_front` and `drop_back` take no memory, and cost the writes of that layer. A
+/// path takes room only while it has a value in the committed state or a write in a layer.
 #[derive(Drop)]
 pub struct Cells {
     alloc: Global,
     pub(crate) names: Names,
-    pub(crate) metas: Layers<Meta>,
-    pub(crate) contents: Layers<Bytes>,
-    pub(crate) acls: Layers<Acls>,
-    children: Layers<()>,
-    pub(crate) owners: Layers<u64>,
+    // the numbers of the paths that each layer wrote
+    pub(crate) trail: Trail,
+    pub(crate) nodes: Nodes,
     pub(crate) sessions: Layers<Session>,
     pub(crate) next: Layers<u64>,
     pub(crate) applied: u64,
@@ -56,11 +56,12 @@ impl Model for Cells {
 
     ghost coded = { overlays_code };
 
-    ghost use Rattle.kp_cells.specs.Held.{overlays, AreHeld};
+    ghost use Rattle.kp_cells.specs.Held.{overlays};
+    ghost use Rattle.kp_cells.specs.Traced.{AreKept};
 
-    ghost view = { λ c. overlays c.names c.metas c.contents c.acls c.children c.owners c.sessions c.next c.applied };
+    ghost view = { λ c. overlays c.names c.nodes.metas c.nodes.contents c.nodes.acls c.nodes.children c.nodes.owners c.sessions c.next c.applied };
 
-    ghost invariant = { λ c. AreHeld c.names c.metas c.contents c.acls c.children c.owners c.sessions c.next };
+    ghost invariant = { λ c. AreKept c.names c.trail c.nodes.metas c.nodes.contents c.nodes.acls c.nodes.children c.nodes.owners c.sessions c.next };
 }
 
 // The index of the last committed entry, where one more may have been committed. It stands still at
@@ -136,11 +137,14 @@ impl Cells {
         Ok(Cells {
             alloc,
             names: Names::new(alloc),
-            metas,
-            contents,
-            acls,
-            children,
-            owners,
+            trail: Trail::new(alloc),
+            nodes: Nodes {
+                metas,
+                contents,
+                acls,
+                children,
+                owners,
+            },
             sessions,
             next,
             applied: 0,
@@ -167,14 +171,21 @@ impl Cells {
         ensures err { OnErr result (self.new ≡ self.old) }
     {
         begin_four(
-            &mut self.metas,
-            &mut self.contents,
-            &mut self.acls,
-            &mut self.children,
+            &mut self.nodes.metas,
+            &mut self.nodes.contents,
+            &mut self.nodes.acls,
+            &mut self.nodes.children,
         )?;
-        if begin_three(&mut self.owners, &mut self.sessions, &mut self.next).is_err() {
-            abandon_both(&mut self.metas, &mut self.contents);
-            abandon_both(&mut self.acls, &mut self.children);
+        if begin_rest(
+            &mut self.nodes.owners,
+            &mut self.sessions,
+            &mut self.next,
+            &mut self.trail,
+        )
+        .is_err()
+        {
+            abandon_both(&mut self.nodes.metas, &mut self.nodes.contents);
+            abandon_both(&mut self.nodes.acls, &mut self.nodes.children);
             return Err(NoMemory);
         }
         Ok(())
@@ -186,11 +197,11 @@ impl Cells {
         ensures { result ≡ marks_of self.now }
     {
         CellsMark {
-            metas: self.metas.mark(),
-            contents: self.contents.mark(),
-            acls: self.acls.mark(),
-            children: self.children.mark(),
-            owners: self.owners.mark(),
+            metas: self.nodes.metas.mark(),
+            contents: self.nodes.contents.mark(),
+            acls: self.nodes.acls.mark(),
+            children: self.nodes.children.mark(),
+            owners: self.nodes.owners.mark(),
             sessions: self.sessions.mark(),
             next: self.next.mark(),
         }
@@ -201,13 +212,14 @@ impl Cells {
         requires { IsOpen self.old }
         ensures { self.new ≡ all_undone self.old mark }
     {
-        self.metas.undo_to(mark.metas);
-        self.contents.undo_to(mark.contents);
-        self.acls.undo_to(mark.acls);
-        self.children.undo_to(mark.children);
-        self.owners.undo_to(mark.owners);
+        self.nodes.metas.undo_to(mark.metas);
+        self.nodes.contents.undo_to(mark.contents);
+        self.nodes.acls.undo_to(mark.acls);
+        self.nodes.children.undo_to(mark.children);
+        self.nodes.owners.undo_to(mark.owners);
         self.sessions.undo_to(mark.sessions);
         self.next.undo_to(mark.next);
+        release(&mut self.names, &self.nodes, self.trail.staged());
     }
 
     /// Closes the open layer behind the sealed ones.
@@ -215,13 +227,14 @@ impl Cells {
         requires { IsOpen self.old }
         ensures { self.new ≡ all_sealed self.old }
     {
-        self.metas.seal();
-        self.contents.seal();
-        self.acls.seal();
-        self.children.seal();
-        self.owners.seal();
+        self.nodes.metas.seal();
+        self.nodes.contents.seal();
+        self.nodes.acls.seal();
+        self.nodes.children.seal();
+        self.nodes.owners.seal();
         self.sessions.seal();
         self.next.seal();
+        self.trail.seal();
     }
 
     /// Takes the open layer away with its writes.
@@ -229,13 +242,15 @@ impl Cells {
         requires { IsOpen self.old }
         ensures { self.new ≡ all_abandoned self.old }
     {
-        self.metas.abandon();
-        self.contents.abandon();
-        self.acls.abandon();
-        self.children.abandon();
-        self.owners.abandon();
+        self.nodes.metas.abandon();
+        self.nodes.contents.abandon();
+        self.nodes.acls.abandon();
+        self.nodes.children.abandon();
+        self.nodes.owners.abandon();
         self.sessions.abandon();
         self.next.abandon();
+        let opened = self.trail.take_staged();
+        release(&mut self.names, &self.nodes, opened.as_slice());
     }
 
     /// Makes the first sealed layer part of the committed state. Answers false exactly where no
@@ -245,13 +260,15 @@ impl Cells {
         ensures there { IsTrue result ↔ (0 < depth self.old) }
         ensures changed { self.new ≡ all_committed self.old }
     {
-        let there = self.metas.commit_front();
-        let _ = self.contents.commit_front();
-        let _ = self.acls.commit_front();
-        let _ = self.children.commit_front();
-        let _ = self.owners.commit_front();
+        let there = self.nodes.metas.commit_front();
+        let _ = self.nodes.contents.commit_front();
+        let _ = self.nodes.acls.commit_front();
+        let _ = self.nodes.children.commit_front();
+        let _ = self.nodes.owners.commit_front();
         let _ = self.sessions.commit_front();
         let _ = self.next.commit_front();
+        let first = self.trail.take_front();
+        release(&mut self.names, &self.nodes, first.as_slice());
         self.applied = raised(self.applied, there);
         there
     }
@@ -263,135 +280,15 @@ impl Cells {
         ensures there { IsTrue result ↔ (0 < depth self.old) }
         ensures changed { self.new ≡ all_dropped self.old }
     {
-        let there = self.metas.drop_back();
-        let _ = self.contents.drop_back();
-        let _ = self.acls.drop_back();
-        let _ = self.children.drop_back();
-        let _ = self.owners.drop_back();
+        let there = self.nodes.metas.drop_back();
+        let _ = self.nodes.contents.drop_back();
+        let _ = self.nodes.acls.drop_back();
+        let _ = self.nodes.children.drop_back();
+        let _ = self.nodes.owners.drop_back();
         let _ = self.sessions.drop_back();
         let _ = self.next.drop_back();
+        let last = self.trail.take_back();
+        release(&mut self.names, &self.nodes, last.as_slice());
         there
-    }
-
-    /// Sets what is shown of the node at the path, or with None takes it away. After an error
-    /// nothing has changed, here and in the other staging calls.
-    pub fn stage_meta(&mut self, path: &str, meta: Option<Meta>) -> Result<(), NoMemory>
-        requires open { IsOpen self.old }
-        requires path { IsTrue (is_well_formed path.now) }
-        ensures ok { OnOk result (self.new ≡ with_meta self.old path.now meta) }
-        ensures err { OnErr result (self.new ≡ self.old) }
-    {
-        let number = self.names.give(path)?;
-        self.metas.stage(number, meta)?;
-        Ok(())
-    }
-
-    /// Sets the data of the node at the path, or with None takes it away.
-    pub fn stage_content(&mut self, path: &str, content: Option<Bytes>) -> Result<(), NoMemory>
-        requires open { IsOpen self.old }
-        requires path { IsTrue (is_well_formed path.now) }
-        ensures ok { OnOk result (self.new ≡ with_content self.old path.now content) }
-        ensures err { OnErr result (self.new ≡ self.old) }
-    {
-        let number = self.names.give(path)?;
-        self.contents.stage(number, content)?;
-        Ok(())
-    }
-
-    /// Sets the access list of the node at the path, or with None takes it away.
-    pub fn stage_acl(&mut self, path: &str, acl: Option<Acls>) -> Result<(), NoMemory>
-        requires open { IsOpen self.old }
-        requires path { IsTrue (is_well_formed path.now) }
-        ensures ok { OnOk result (self.new ≡ with_acl self.old path.now acl) }
-        ensures err { OnErr result (self.new ≡ self.old) }
-    {
-        let number = self.names.give(path)?;
-        self.acls.stage(number, acl)?;
-        Ok(())
-    }
-
-    // Sets what stands for the path among its parent's children.
-    fn set_child(&mut self, path: &str, value: Option<()>) -> Result<(), NoMemory>
-        requires open { IsOpen self.old }
-        ensures ok { OnOk result (self.new ≡ record self.old { children = written self.old.children path.now value }) }
-        ensures err { OnErr result (self.new ≡ self.old) }
-    {
-        let number = self.names.give(path)?;
-        self.children.stage(number, value)?;
-        Ok(())
-    }
-
-    /// Sets whether the path is among its parent's children.
-    pub fn stage_child(&mut self, path: &str, there: bool) -> Result<(), NoMemory>
-        requires open { IsOpen self.old }
-        requires path { IsTrue (is_well_formed path.now) }
-        requires inner { bytes_eq path.now root ≡ false }
-        ensures ok { OnOk result (self.new ≡ with_child self.old path.now there) }
-        ensures err { OnErr result (self.new ≡ self.old) }
-    {
-        if there {
-            self.set_child(path, Some(()))
-        } else {
-            self.set_child(path, None)
-        }
-    }
-
-    // Sets the session that owns the path.
-    fn stage_owner(&mut self, path: &str, owner: Option<u64>) -> Result<(), NoMemory>
-        requires open { IsOpen self.old }
-        ensures ok { OnOk result (self.new ≡ with_owner self.old path.now owner) }
-        ensures err { OnErr result (self.new ≡ self.old) }
-    {
-        let number = self.names.give(path)?;
-        self.owners.stage(number, owner)?;
-        Ok(())
-    }
-
-    // Whether the session owns the path under all layers.
-    fn is_owner(&self, path: &str, session: u64) -> bool
-        ensures { result ≡ option_map_or (λ n. n == session) (map.get (latest_of self.now.owners) path.now) false }
-    {
-        match latest_at(&self.names, &self.owners, path) {
-            Some(owner) => *owner == session,
-            None => false,
-        }
-    }
-
-    /// Sets whether the session owns the path. A session that comes to own it takes the place of
-    /// another owner; one that gives up what it doesn't own changes nothing.
-    #[tactic(auto, unfolding(crate::specs::Overlays::with_owned))]
-    pub fn stage_owned(&mut self, path: &str, session: u64, there: bool) -> Result<(), NoMemory>
-        requires open { IsOpen self.old }
-        requires path { IsTrue (is_well_formed path.now) }
-        ensures ok { OnOk result (self.new ≡ with_owned self.old path.now session there) }
-        ensures err { OnErr result (self.new ≡ self.old) }
-    {
-        if there {
-            self.stage_owner(path, Some(session))
-        } else if self.is_owner(path, session) {
-            self.stage_owner(path, None)
-        } else {
-            Ok(())
-        }
-    }
-
-    /// Sets the session of the number, or with None takes it away.
-    pub fn stage_session(&mut self, id: u64, session: Option<Session>) -> Result<(), NoMemory>
-        requires { IsOpen self.old }
-        ensures ok { OnOk result (self.new ≡ with_session self.old id session) }
-        ensures err { OnErr result (self.new ≡ self.old) }
-    {
-        self.sessions.stage(id, session)?;
-        Ok(())
-    }
-
-    /// Sets the number that the next session gets.
-    pub fn stage_next(&mut self, next: u64) -> Result<(), NoMemory>
-        requires { IsOpen self.old }
-        ensures ok { OnOk result (self.new ≡ with_next self.old next) }
-        ensures err { OnErr result (self.new ≡ self.old) }
-    {
-        self.next.stage(0, Some(next))?;
-        Ok(())
     }
 }

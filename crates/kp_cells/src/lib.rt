@@ -4,11 +4,15 @@
 
 mod cells;
 mod change;
+mod kin;
 mod listing;
 mod looks;
 mod names;
+mod nodes;
 mod pair;
 mod pick;
+mod staging;
+mod trail;
 mod view;
 
 pub use cells::{Cells, CellsMark};

@@ -1,12 +1,13 @@
 //! Lists of paths and of session numbers.
-ghost use Rattle.std.specs.Prelude.{◌≡◌, ℕ, List, cond, ◌||◌, ◌<◌, map, is_some, option_copied, IfOk, OnOk};
+ghost use Rattle.std.specs.Prelude.{◌≡◌, ℕ, List, ◌||◌, map, option_copied, IfOk, OnOk};
 ghost use Rattle.std.specs.BTreeSet.{contains};
 ghost use Rattle.std.specs.FinMap as fin;
 ghost use Rattle.std.specs.Str.{bytes_eq};
-ghost use Rattle.std.specs.List.{filter, list_any};
+ghost use Rattle.std.specs.List.{list_any};
 ghost use Rattle.kp_model.specs.Path as paths;
 ghost use Rattle.kp_model.specs.State.{path_cmp};
-ghost use Rattle.kp_cells.specs.Listed.{side_of, taken as taken_of, takes, is_the, Lists, below, is_there, is_held_at};
+ghost use Rattle.kp_cells.specs.Naming.{IsNaming};
+ghost use Rattle.kp_cells.specs.Listed.{side_of, taken as taken_of, takes, is_the, Lists, AreAmong, below, is_held_at};
 
 use crate::names::Names;
 use crate::pick::Pick;
@@ -71,20 +72,22 @@ fn visit<P: Pick>(
     }
 }
 
-// The paths that are picked, in a set.
+// The paths that are picked, in a set. The numbers of all of them are among these.
 fn gather<P: Pick>(
     alloc: Global,
     names: &Names,
     metas: &Layers<Meta>,
     latest: bool,
     pick: &P,
+    numbers: &[u64],
 ) -> Result<BTreeSet<Text>, NoMemory>
+    requires naming { IsNaming names.now }
+    requires all { AreAmong (P.test pick.now) names.now (side_of latest metas.now) numbers.now }
     ensures { IfOk result (λ found. (q : List ℕ) → contains path_cmp found q ≡ takes (P.test pick.now) names.now (side_of latest metas.now) q) }
 {
     let mut found = BTreeSet::new(alloc);
-    let bound = names.bound();
-    for number in 0..bound {
-        visit(alloc, names, metas, latest, pick, number, &mut found)?;
+    for number in numbers {
+        visit(alloc, names, metas, latest, pick, *number, &mut found)?;
     }
     Ok(found)
 }
@@ -100,18 +103,33 @@ fn in_order(alloc: Global, mut found: BTreeSet<Text>) -> Result<Paths, NoMemory>
     Ok(Paths::from_vec(paths))
 }
 
-/// The paths that are picked, ascending. Walks all paths that are in use.
+/// The paths that are picked, ascending. The numbers of all of them are among these. Costs the
+/// numbers, and the sorting of what is picked.
 pub fn list<P: Pick>(
     alloc: Global,
     names: &Names,
     metas: &Layers<Meta>,
     latest: bool,
     pick: &P,
+    numbers: &[u64],
 ) -> Result<Paths, NoMemory>
+    requires naming { IsNaming names.now }
+    requires all { AreAmong (P.test pick.now) names.now (side_of latest metas.now) numbers.now }
     ensures { IfOk result (Lists path_cmp (takes (P.test pick.now) names.now (side_of latest metas.now))) }
 {
-    let found = gather(alloc, names, metas, latest, pick)?;
+    let found = gather(alloc, names, metas, latest, pick, numbers)?;
     in_order(alloc, found)
+}
+
+/// The keys that the layers have, ascending: under all layers, or below them. Costs the keys in use.
+pub fn keys<V>(alloc: Global, layers: &Layers<V>, latest: bool) -> Result<Vec<u64>, NoMemory>
+    ensures { IfOk result (λ ks. ks.items ≡ fin.keys (side_of latest layers.now)) }
+{
+    if latest {
+        Ok(layers.latest_keys(alloc)?)
+    } else {
+        Ok(layers.committed_keys(alloc)?)
+    }
 }
 
 /// The name of each path.
@@ -123,24 +141,6 @@ pub fn names_of(alloc: Global, list: &Paths) -> Result<Paths, NoMemory>
         names.push(Text::from_str(alloc, kp_path::name(path.as_str()))?)?;
     }
     Ok(names)
-}
-
-/// The numbers below the bound of which there is a session, ascending.
-pub fn numbers(
-    alloc: Global,
-    sessions: &Layers<Session>,
-    latest: bool,
-    bound: u64,
-) -> Result<Vec<u64>, NoMemory>
-    ensures { IfOk result (λ ids. ids.items ≡ filter (is_there (side_of latest sessions.now)) (below bound)) }
-{
-    let mut ids = Vec::new(alloc);
-    for id in 0..bound {
-        if look(sessions, latest, id).is_some() {
-            ids.push(id)?;
-        }
-    }
-    Ok(ids)
 }
 
 // Whether the session of the number is held by this origin.

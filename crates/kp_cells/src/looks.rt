@@ -42,21 +42,21 @@ impl Cells {
     pub fn latest_meta(&self, path: &str) -> Option<&Meta>
         ensures { option_copied result ≡ map.get (latest_of self.now.metas) path.now }
     {
-        latest_at(&self.names, &self.metas, path)
+        latest_at(&self.names, &self.nodes.metas, path)
     }
 
     /// What is shown of the node at the path below all layers.
     pub fn committed_meta(&self, path: &str) -> Option<&Meta>
         ensures { option_copied result ≡ map.get self.now.metas.base path.now }
     {
-        committed_at(&self.names, &self.metas, path)
+        committed_at(&self.names, &self.nodes.metas, path)
     }
 
     /// The data of the node at the path under all layers.
     pub fn latest_content(&self, path: &str) -> Option<&[u8]>
         ensures { option_copied result ≡ map.get (latest_of self.now.contents) path.now }
     {
-        match latest_at(&self.names, &self.contents, path) {
+        match latest_at(&self.names, &self.nodes.contents, path) {
             Some(bytes) => Some(bytes.as_slice()),
             None => None,
         }
@@ -66,7 +66,7 @@ impl Cells {
     pub fn committed_content(&self, path: &str) -> Option<&[u8]>
         ensures { option_copied result ≡ map.get self.now.contents.base path.now }
     {
-        match committed_at(&self.names, &self.contents, path) {
+        match committed_at(&self.names, &self.nodes.contents, path) {
             Some(bytes) => Some(bytes.as_slice()),
             None => None,
         }
@@ -76,7 +76,7 @@ impl Cells {
     pub fn latest_acl(&self, path: &str) -> Option<&[Acl]>
         ensures { option_copied result ≡ map.get (latest_of self.now.acls) path.now }
     {
-        match latest_at(&self.names, &self.acls, path) {
+        match latest_at(&self.names, &self.nodes.acls, path) {
             Some(acl) => Some(acl.as_slice()),
             None => None,
         }
@@ -86,7 +86,7 @@ impl Cells {
     pub fn committed_acl(&self, path: &str) -> Option<&[Acl]>
         ensures { option_copied result ≡ map.get self.now.acls.base path.now }
     {
-        match committed_at(&self.names, &self.acls, path) {
+        match committed_at(&self.names, &self.nodes.acls, path) {
             Some(acl) => Some(acl.as_slice()),
             None => None,
         }

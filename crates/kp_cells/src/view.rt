@@ -1,14 +1,16 @@
 //! The two views of the tree and its sessions.
-ghost use Rattle.std.specs.Prelude.{◌≡◌, IfOk};
+ghost use Rattle.std.specs.Prelude.{◌≡◌, ◌==◌, false, IfOk};
 ghost use Rattle.std.specs.FinMap as map;
 ghost use Rattle.std.specs.List.{filter, list_any};
-ghost use Rattle.kp_cells.specs.Listed.{side_of, passes, below, is_there, is_held_at};
+ghost use Rattle.kp_model.specs.State.{is_child};
+ghost use Rattle.kp_cells.specs.Listed.{side_of, passes, below, is_held_at};
 ghost use Rattle.kp_cells.specs.Overlays.{latest_parts, latest_state, committed_parts, committed_state};
 ghost use Rattle.kp_cells.specs.Parts.{FitTogether};
+ghost use Rattle.kp_cells.specs.Sides.{parts_at};
 ghost use Rattle.kp_cells.specs.Viewed.{AreNumbered};
 
 use crate::cells::Cells;
-use crate::listing::{has_holder, list, names_of, numbers};
+use crate::listing::{has_holder, keys, list, names_of};
 use crate::pick::{ChildOf, Every, OwnedBy, Pick};
 use kp_model::{Acl, Meta, NoMemory, Origin, Paths, Session, View};
 use std::alloc::Global;
@@ -33,18 +35,70 @@ impl Cells {
         CommittedView { cells: self }
     }
 
-    // The paths that are picked, ascending.
-    fn list<P: Pick>(&self, alloc: Global, latest: bool, pick: &P) -> Result<Paths, NoMemory>
+    // The paths of the nodes that are picked, ascending. Costs as much as there are nodes.
+    fn picked<P: Pick>(&self, alloc: Global, latest: bool, pick: &P) -> Result<Paths, NoMemory>
         ensures { IfOk result (λ paths. paths ≡ filter (passes (P.test pick.now) (side_of latest self.now.metas)) (map.keys (side_of latest self.now.metas))) }
     {
-        list(alloc, &self.names, &self.metas, latest, pick)
+        let numbers = keys(alloc, &self.nodes.metas, latest)?;
+        list(
+            alloc,
+            &self.names,
+            &self.nodes.metas,
+            latest,
+            pick,
+            numbers.as_slice(),
+        )
     }
 
-    // The numbers of the sessions below the bound, ascending.
-    fn numbers(&self, alloc: Global, latest: bool, bound: u64) -> Result<Vec<u64>, NoMemory>
-        ensures { IfOk result (λ ids. ids.items ≡ filter (is_there (side_of latest self.now.sessions)) (below bound)) }
+    // The paths of the children of the path, ascending.
+    fn children(&self, alloc: Global, latest: bool, path: &str) -> Result<Paths, NoMemory>
+        ensures { IfOk result (λ paths. paths ≡ filter (passes (λ q m. is_child path.now q) (side_of latest self.now.metas)) (map.keys (side_of latest self.now.metas))) }
     {
-        numbers(alloc, &self.sessions, latest, bound)
+        let numbers = self.names.children(alloc, path)?;
+        list(
+            alloc,
+            &self.names,
+            &self.nodes.metas,
+            latest,
+            &ChildOf { parent: path },
+            numbers.as_slice(),
+        )
+    }
+
+    // The paths of the nodes of a session, ascending.
+    fn owned_by(&self, alloc: Global, latest: bool, session: u64) -> Result<Paths, NoMemory>
+        requires fits { FitTogether (parts_at latest self.now) }
+        requires session { (session == 0) ≡ false }
+        ensures { IfOk result (λ paths. paths ≡ filter (passes (λ q m. m.owner == session) (side_of latest self.now.metas)) (map.keys (side_of latest self.now.metas))) }
+    {
+        let numbers = keys(alloc, &self.nodes.owners, latest)?;
+        list(
+            alloc,
+            &self.names,
+            &self.nodes.metas,
+            latest,
+            &OwnedBy { session },
+            numbers.as_slice(),
+        )
+    }
+
+    // The paths of the nodes of a session, ascending; those without an owner at the number 0.
+    fn owned(&self, alloc: Global, latest: bool, session: u64) -> Result<Paths, NoMemory>
+        requires { FitTogether (parts_at latest self.now) }
+        ensures { IfOk result (λ paths. paths ≡ filter (passes (λ q m. m.owner == session) (side_of latest self.now.metas)) (map.keys (side_of latest self.now.metas))) }
+    {
+        if session == 0 {
+            self.picked(alloc, latest, &OwnedBy { session })
+        } else {
+            self.owned_by(alloc, latest, session)
+        }
+    }
+
+    // The numbers of the sessions, ascending.
+    fn session_ids(&self, alloc: Global, latest: bool) -> Result<Vec<u64>, NoMemory>
+        ensures { IfOk result (λ ids. ids.items ≡ map.keys (side_of latest self.now.sessions)) }
+    {
+        keys(alloc, &self.sessions, latest)
     }
 
     // Whether a session below the bound is held by this origin.
@@ -57,8 +111,9 @@ impl Cells {
 
 /// The state under all layers, the open one last.
 ///
-/// The look-ups that lend take no memory. `holds` and `sessions` go over the numbers of all sessions
-/// that were ever opened; `kids`, `owned` and `paths` walk all paths that are in use.
+/// The look-ups that lend take no memory. `kids` costs the children of the path in either view and
+/// in the layers, `sessions` and `owned` what the layers hold of sessions and of owners, and `paths`
+/// and `owned` of no session all paths that are in use.
 #[derive(Drop)]
 pub struct LatestView<'a> {
     cells: &'a Cells,
@@ -114,32 +169,30 @@ impl View for LatestView<'_> {
 
     #[tactic(auto, using(crate::proofs::Shown::latest_kids))]
     fn kids(&self, alloc: Global, path: &str) -> Result<Paths, NoMemory> {
-        names_of(
-            alloc,
-            &self.cells.list(alloc, true, &ChildOf { parent: path })?,
-        )
+        names_of(alloc, &self.cells.children(alloc, true, path)?)
     }
 
     #[tactic(auto, using(crate::proofs::Shown::latest_owned))]
     fn owned(&self, alloc: Global, session: u64) -> Result<Paths, NoMemory> {
-        self.cells.list(alloc, true, &OwnedBy { session })
+        self.cells.owned(alloc, true, session)
     }
 
-    #[tactic(auto, using(crate::proofs::Shown::latest_sessions))]
+    #[tactic(auto, unfolding(crate::specs::Parts::whole))]
     fn sessions(&self, alloc: Global) -> Result<Vec<u64>, NoMemory> {
-        self.cells.numbers(alloc, true, self.cells.latest_next())
+        self.cells.session_ids(alloc, true)
     }
 
     #[tactic(auto, using(crate::proofs::Shown::latest_paths))]
     fn paths(&self, alloc: Global) -> Result<Paths, NoMemory> {
-        self.cells.list(alloc, true, &Every {})
+        self.cells.picked(alloc, true, &Every {})
     }
 }
 
 /// The state below all layers.
 ///
-/// The look-ups that lend take no memory. `holds` and `sessions` go over the numbers of all sessions
-/// that were ever opened; `kids`, `owned` and `paths` walk all paths that are in use.
+/// The look-ups that lend take no memory. `kids` costs the children of the path in either view and
+/// in the layers, `sessions` and `owned` what the layers hold of sessions and of owners, and `paths`
+/// and `owned` of no session all paths that are in use.
 #[derive(Drop)]
 pub struct CommittedView<'a> {
     cells: &'a Cells,
@@ -195,25 +248,21 @@ impl View for CommittedView<'_> {
 
     #[tactic(auto, using(crate::proofs::Shown::committed_kids))]
     fn kids(&self, alloc: Global, path: &str) -> Result<Paths, NoMemory> {
-        names_of(
-            alloc,
-            &self.cells.list(alloc, false, &ChildOf { parent: path })?,
-        )
+        names_of(alloc, &self.cells.children(alloc, false, path)?)
     }
 
     #[tactic(auto, using(crate::proofs::Shown::committed_owned))]
     fn owned(&self, alloc: Global, session: u64) -> Result<Paths, NoMemory> {
-        self.cells.list(alloc, false, &OwnedBy { session })
+        self.cells.owned(alloc, false, session)
     }
 
-    #[tactic(auto, using(crate::proofs::Shown::committed_sessions))]
+    #[tactic(auto, unfolding(crate::specs::Parts::whole))]
     fn sessions(&self, alloc: Global) -> Result<Vec<u64>, NoMemory> {
-        self.cells
-            .numbers(alloc, false, self.cells.committed_next())
+        self.cells.session_ids(alloc, false)
     }
 
     #[tactic(auto, using(crate::proofs::Shown::committed_paths))]
     fn paths(&self, alloc: Global) -> Result<Paths, NoMemory> {
-        self.cells.list(alloc, false, &Every {})
+        self.cells.picked(alloc, false, &Every {})
     }
 }

@@ -7,11 +7,11 @@ pub returns-in-Some : goal.returns-in-Some
 returns-in-Some c =
     ap Some c.as_slice.ensures
     ∙ c.in-Some.ensures
-    ∙ sym (get-by_path c.self.inside.names c.self.inside.contents.base c.args.path.now)
+    ∙ sym (get-by_path c.self.inside.names c.self.inside.nodes.contents.base c.args.path.now)
     ∙ ap (λ o. get o.contents.base c.args.path.now) c.self.view_is
 
 pub returns-in-None : goal.returns-in-None
 returns-in-None c =
     c.in-None.ensures
-    ∙ sym (get-by_path c.self.inside.names c.self.inside.contents.base c.args.path.now)
+    ∙ sym (get-by_path c.self.inside.names c.self.inside.nodes.contents.base c.args.path.now)
     ∙ ap (λ o. get o.contents.base c.args.path.now) c.self.view_is

@@ -10,12 +10,12 @@ pub returns-in-Some : goal.returns-in-Some
 returns-in-Some c =
     ap (λ r. option_map_or (λ n. n == c.args.session) r false) (
     c.in-Some.ensures
-    ∙ at_latest c.self.inside.names c.self.invariant.naming c.self.inside.owners c.args.path.now c.self.invariant.owners_named
+    ∙ at_latest c.self.inside.names c.self.invariant.held.naming c.self.inside.nodes.owners c.args.path.now c.self.invariant.held.owners_named
     ∙ ap (λ o. get (latest_of o.owners) c.args.path.now) c.self.view_is)
 
 pub returns-in-None : goal.returns-in-None
 returns-in-None c =
     ap (λ r. option_map_or (λ n. n == c.args.session) r false) (
     c.in-None.ensures
-    ∙ at_latest c.self.inside.names c.self.invariant.naming c.self.inside.owners c.args.path.now c.self.invariant.owners_named
+    ∙ at_latest c.self.inside.names c.self.invariant.held.naming c.self.inside.nodes.owners c.args.path.now c.self.invariant.held.owners_named
     ∙ ap (λ o. get (latest_of o.owners) c.args.path.now) c.self.view_is)

@@ -8,11 +8,11 @@ pub returns-in-Some : goal.returns-in-Some
 returns-in-Some c =
     ap Some c.as_slice.ensures
     ∙ c.in-Some.ensures
-    ∙ at_latest c.self.inside.names c.self.invariant.naming c.self.inside.acls c.args.path.now c.self.invariant.acls_named
+    ∙ at_latest c.self.inside.names c.self.invariant.held.naming c.self.inside.nodes.acls c.args.path.now c.self.invariant.held.acls_named
     ∙ ap (λ o. get (latest_of o.acls) c.args.path.now) c.self.view_is
 
 pub returns-in-None : goal.returns-in-None
 returns-in-None c =
     c.in-None.ensures
-    ∙ at_latest c.self.inside.names c.self.invariant.naming c.self.inside.acls c.args.path.now c.self.invariant.acls_named
+    ∙ at_latest c.self.inside.names c.self.invariant.held.naming c.self.inside.nodes.acls c.args.path.now c.self.invariant.held.acls_named
     ∙ ap (λ o. get (latest_of o.acls) c.args.path.now) c.self.view_is

@@ -7,5 +7,5 @@ use Rattle.kp_cells.proofs.cells.Cells.latest_meta.Goals as goal
 pub returns : goal.returns
 returns c =
     c.latest_at.ensures
-    ∙ at_latest c.self.inside.names c.self.invariant.naming c.self.inside.metas c.args.path.now c.self.invariant.metas_named
+    ∙ at_latest c.self.inside.names c.self.invariant.held.naming c.self.inside.nodes.metas c.args.path.now c.self.invariant.held.metas_named
     ∙ ap (λ o. get (latest_of o.metas) c.args.path.now) c.self.view_is

@@ -8,6 +8,6 @@ use Rattle.kp_cells.proofs.view.CommittedViewView.kids.Goals as goal
 pub returns : goal.returns
 returns c =
     if_ok _ _ c.names_of-2.result
-    (λ names same. same ∙ ap (map name) c.in_ok-list.ensures ∙ committed_kids c.self.inside.cells.now c.args.path.now
+    (λ names same. same ∙ ap (map name) c.in_ok-children.ensures ∙ committed_kids c.self.inside.cells.now c.args.path.now
     ∙ ap (λ (s : State). kids s.nodes c.args.path.now) c.self.view_is)
     c.names_of-2.ensures

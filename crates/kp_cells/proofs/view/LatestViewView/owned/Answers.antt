@@ -6,6 +6,6 @@ use Rattle.kp_cells.proofs.view.LatestViewView.owned.Goals as goal
 
 pub returns : goal.returns
 returns c =
-    if_ok _ _ c.list.result
+    if_ok _ _ c.owned.result
     (λ paths same. same ∙ latest_owned c.self.inside.cells.now c.args.session ∙ ap (λ (s : State). owned s.nodes c.args.session) c.self.view_is)
-    c.list.ensures
+    c.owned.ensures

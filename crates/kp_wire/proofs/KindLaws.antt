@@ -16,13 +16,6 @@ use Rattle.kp_wire.specs.Kinds.{kind_number, kind_of, plain_kind_of, look_or_pla
 use Rattle.kp_wire.specs.OpKinds.{op_number, op_named}
 use Rattle.kp_wire.specs.Request.{step_number, step_named, step_kinds}
 
-not_true : (b : Bool) → ¬ (b ≡ true) → b ≡ false
-not_true true h = absurd (h refl)
-not_true false h = refl
-
-pub differ : (a b : ℤ) → ¬ (a ≡ b) → int_eq a b ≡ false
-differ a b h = not_true (int_eq a b) (λ e. h ((Decides-int_eq a b).0 e))
-
 same : (a b : ℤ) → int_eq a b ≡ true → a ≡ b
 same a b e = (Decides-int_eq a b).0 e
 
@@ -39,6 +32,7 @@ op_one z n k m r own t true eq e = ap op_number (sym (some_is k m e)) ∙ own �
 op_one z n k m r own t false eq e = t e
 
 pub op_back : (z : ℤ) (m : OpKind) → op_named z ≡ Some m → op_number m ≡ z
+unfolding op_named
 op_back z m = op_one z (pos 1) op_kinds.Create m _ refl (op_one z (pos 2) op_kinds.Delete m _ refl (op_one z (pos 5) op_kinds.SetData m _ refl (op_one z (pos 13) op_kinds.Check m _ refl (op_one z (pos 15) op_kinds.Create2 m None refl (λ e. absurd cc) (int_eq z (pos 15)) refl) (int_eq z (pos 13)) refl) (int_eq z (pos 5)) refl) (int_eq z (pos 2)) refl) (int_eq z (pos 1)) refl
 
 step_some : (z : ℤ) (o : Option OpKind) (s : Option OpKind) → ((m : OpKind) → o ≡ Some m → op_number m ≡ z) → option_map (λ k. Some k) o ≡ Some s → step_number s ≡ z
@@ -50,6 +44,7 @@ step_back_in z s true eq e = ap step_number (sym (some_is None s e)) ∙ sym (sa
 step_back_in z s false eq e = step_some z (op_named z) s (op_back z) e
 
 pub step_there : (s : Option OpKind) → step_named (step_number s) ≡ Some s
+unfolding op_named
 step_there None = refl
 step_there (Some op_kinds.Create) = refl
 step_there (Some op_kinds.Delete) = refl
@@ -67,6 +62,7 @@ look_one z n k m r own t true eq e = ap look_number (sym (some_is k m e)) ∙ ow
 look_one z n k m r own t false eq e = t e
 
 look_back : (z : ℤ) (m : LookKind) → look_named z ≡ Some m → look_number m ≡ z
+unfolding look_named
 look_back z m = look_one z (pos 3) looks.Exists m _ refl (look_one z (pos 4) looks.GetData m _ refl (look_one z (pos 8) looks.GetChildren m _ refl (look_one z (pos 12) looks.GetChildren2 m None refl (λ e. absurd cc) (int_eq z (pos 12)) refl) (int_eq z (pos 8)) refl) (int_eq z (pos 4)) refl) (int_eq z (pos 3)) refl
 
 -- a type that is chosen where the number is its own
@@ -78,6 +74,7 @@ one : (z n : ℤ) (k r : Kind) → kind_number k ≡ n → kind_number r ≡ z �
 one z n k r own t = one_in z n k r own t (int_eq z n) refl
 
 plain_back : (z : ℤ) → kind_number (plain_kind_of z) ≡ z
+unfolding plain_kind_of
 plain_back z = one z (pos 6) kinds.GetAcl _ refl (one z (pos 7) kinds.SetAcl _ refl (one z (pos 9) kinds.Sync _ refl (one z (pos 11) kinds.Ping _ refl (one z (pos 14) kinds.Multi _ refl (one z (pos 100) kinds.Auth _ refl (one z (pos 101) kinds.SetWatches _ refl (one z (negsuc 10) kinds.CloseSession (kinds.Other z) refl refl)))))))
 
 look_or_plain_back : (z : ℤ) (o : Option LookKind) → look_named z ≡ o → kind_number (look_or_plain o z) ≡ z
@@ -89,20 +86,38 @@ op_or_other_back z (Some k) e = op_back z k e
 op_or_other_back z None e = look_or_plain_back z (look_named z) refl
 
 kind_back : (z : ℤ) → kind_number (kind_of z) ≡ z
+unfolding kind_of
 kind_back z = op_or_other_back z (op_named z) refl
 
-pub op_there : (k : OpKind) → kind_of (op_number k) ≡ kinds.Op k
+op_there : (k : OpKind) → kind_of (op_number k) ≡ kinds.Op k
+unfolding kind_of op_named
 op_there op_kinds.Create = refl
 op_there op_kinds.Delete = refl
 op_there op_kinds.SetData = refl
 op_there op_kinds.Check = refl
 op_there op_kinds.Create2 = refl
 
-pub look_there : (l : LookKind) → kind_of (look_number l) ≡ kinds.Look l
+look_there : (l : LookKind) → kind_of (look_number l) ≡ kinds.Look l
+unfolding kind_of op_named look_named
 look_there looks.Exists = refl
 look_there looks.GetData = refl
 look_there looks.GetChildren = refl
 look_there looks.GetChildren2 = refl
+
+-- each type but an other one is the one that its number names
+pub as_named : (k : Kind) → ((n : ℤ) → k ≡ kinds.Other n → ⊥) → kind_of (kind_number k) ≡ k
+unfolding kind_of op_named look_named plain_kind_of
+as_named (kinds.Op k) h = op_there k
+as_named (kinds.Look l) h = look_there l
+as_named kinds.GetAcl h = refl
+as_named kinds.SetAcl h = refl
+as_named kinds.Sync h = refl
+as_named kinds.Ping h = refl
+as_named kinds.Multi h = refl
+as_named kinds.Auth h = refl
+as_named kinds.SetWatches h = refl
+as_named kinds.CloseSession h = refl
+as_named (kinds.Other z) h = absurd (h z refl)
 
 -- a number that names an other type names the one of itself
 pub other_there : (z n : ℤ) → kind_of z ≡ kinds.Other n → kind_of z ≡ kinds.Other z

@@ -18,7 +18,7 @@ look_number looks.GetData = pos 4
 look_number looks.GetChildren = pos 8
 look_number looks.GetChildren2 = pos 12
 
-abbrev pub look_named : ℤ → Option LookKind
+unfoldable pub look_named : ℤ → Option LookKind
 look_named z = if int_eq z (pos 3) then Some looks.Exists else if int_eq z (pos 4) then Some looks.GetData else if int_eq z (pos 8) then Some looks.GetChildren else if int_eq z (pos 12) then Some looks.GetChildren2 else None
 
 -- ---- all types
@@ -38,7 +38,7 @@ kind_number kinds.CloseSession = negsuc 10
 kind_number (kinds.Other z) = z
 
 -- the one of a number that is neither of an operation nor of a look
-abbrev pub plain_kind_of : ℤ → Kind
+unfoldable pub plain_kind_of : ℤ → Kind
 plain_kind_of z = if int_eq z (pos 6) then kinds.GetAcl else if int_eq z (pos 7) then kinds.SetAcl else if int_eq z (pos 9) then kinds.Sync else if int_eq z (pos 11) then kinds.Ping else if int_eq z (pos 14) then kinds.Multi else if int_eq z (pos 100) then kinds.Auth else if int_eq z (pos 101) then kinds.SetWatches else if int_eq z (negsuc 10) then kinds.CloseSession else kinds.Other z
 
 abbrev pub look_or_plain : Option LookKind → ℤ → Kind
@@ -50,7 +50,7 @@ op_or_other (Some k) z = kinds.Op k
 op_or_other None z = look_or_plain (look_named z) z
 
 -- the one of a number
-abbrev pub kind_of : ℤ → Kind
+unfoldable pub kind_of : ℤ → Kind
 kind_of z = op_or_other (op_named z) z
 
 -- a type is written as its number; one without a row only where its number has none

@@ -13,5 +13,5 @@ op_number kinds.Check = pos 13
 op_number kinds.Create2 = pos 15
 
 -- the one of a number
-abbrev pub op_named : ℤ → Option OpKind
+unfoldable pub op_named : ℤ → Option OpKind
 op_named z = if int_eq z (pos 1) then Some kinds.Create else if int_eq z (pos 2) then Some kinds.Delete else if int_eq z (pos 5) then Some kinds.SetData else if int_eq z (pos 13) then Some kinds.Check else if int_eq z (pos 15) then Some kinds.Create2 else None

@@ -1,7 +1,7 @@
 -- Requests: int xid, int type, and the fields of that type.
-use Rattle.std.specs.Prelude.{◌≡◌, ℕ, ℤ, negsuc, Bool, true, false, List, [], Option, Some, None, Ok, option_map, if◌then◌else◌}
+use Rattle.std.specs.Prelude.{◌≡◌, ℕ, ℤ, negsuc, Bool, true, false, List, [], ◌++◌, Option, Some, None, Ok, option_map, if◌then◌else◌}
 use Rattle.std.specs.Ordering.{int_eq}
-use Rattle.kp_jute.specs.Form.{Form, Reading, ◌>>=◌, ◌⊗◌, seen, narrowed, tagged, remains}
+use Rattle.kp_jute.specs.Form.{Form, Reading, ◌>>=◌, ◌⊗◌, seen, narrowed, tagged, remains, Wrote}
 use Rattle.kp_jute.specs.Jute.{ints, longs, unsigned_ints, booleans, buffers, texts, vectors, untils, fixed_ints, fixed_booleans}
 use Rattle.kp_wire.specs.declared.fields.Creation.{Creation}
 use Rattle.kp_wire.specs.declared.fields.Versioned.{Versioned}
@@ -24,6 +24,10 @@ use Rattle.kp_wire.specs.declared.request.WireOp.TheVariants as op
 use Rattle.kp_wire.specs.Common.{wire_acls}
 use Rattle.kp_wire.specs.Kinds.{kind_forms}
 use Rattle.kp_wire.specs.OpKinds.{op_number, op_named}
+
+-- the same bytes, read as another type
+abbrev pub read_as : {A B : Type 0} → (A → B) → Form A → Reading B
+read_as to f p = f.read p >>= λ x. Ok (to x.0, x.1)
 
 -- ---- fields that several types share
 
@@ -126,10 +130,6 @@ op_held (op.Delete path version) = record { path = path; version = version }
 op_held (op.SetData path bytes version) = record { path = path; bytes = bytes; version = version }
 op_held (op.Check path version) = record { path = path; version = version }
 
--- an operation of that type is read so
-abbrev pub op_at : OpKind → Reading WireOp
-op_at k p = (op_forms k).read p >>= λ h. Ok (op_of k h.0, h.1)
-
 abbrev pub step_of : (s : Option OpKind) × StepHeld s → Option WireOp
 step_of (None, u) = None
 step_of (Some k, h) = Some (op_of k h)
@@ -138,8 +138,29 @@ abbrev pub step_in : Option WireOp → (s : Option OpKind) × StepHeld s
 step_in None = (None, tt)
 step_in (Some o) = (Some (op_kind o), op_held o)
 
+-- an operation of that type is read so
+abbrev pub op_at : OpKind → Reading WireOp
+op_at op_kinds.Create = read_as (op_of op_kinds.Create) creations
+op_at op_kinds.Create2 = read_as (op_of op_kinds.Create2) creations
+op_at op_kinds.Delete = read_as (op_of op_kinds.Delete) versioneds
+op_at op_kinds.SetData = read_as (op_of op_kinds.SetData) settings
+op_at op_kinds.Check = read_as (op_of op_kinds.Check) versioneds
+
+-- what follows the mark
+abbrev pub behind_mark : Option OpKind → Reading (Option WireOp)
+behind_mark None q = Ok (None, q)
+behind_mark (Some k) q = op_at k q >>= λ o. Ok (Some o.0, o.1)
+
+abbrev pub step_parts : Form ((s : Option OpKind) × StepHeld s)
+step_parts = tagged step_kinds step_rests
+
+-- int type, boolean, int -1, and the operation
 abbrev pub steps : Form (Option WireOp)
-steps = seen step_of step_in (tagged step_kinds step_rests)
+steps = record {
+  Fits = λ o. step_parts.Fits (step_in o);
+  spell = λ o. step_parts.spell (step_in o);
+  read = λ p. step_kinds.read p >>= λ k. (marks (is_end k.0)).read k.1 >>= λ u. behind_mark k.0 u.1;
+}
 
 -- ---- requests
 
@@ -240,12 +261,60 @@ ask_held (ask.Other kind rest) = rest
 
 -- a request of that type is read so
 abbrev pub ask_at : Kind → Reading WireAsk
-ask_at k p = (held_forms k).read p >>= λ h. Ok (ask_of k h.0, h.1)
+ask_at (kinds.Op k) q = op_at k q >>= λ o. Ok (ask_of_op o.0, o.1)
+ask_at (kinds.Look l) q = read_as (look_of l) watcheds q
+ask_at kinds.GetAcl q = read_as (ask_of kinds.GetAcl) texts q
+ask_at kinds.SetAcl q = read_as (ask_of kinds.SetAcl) acl_settings q
+ask_at kinds.Sync q = read_as (ask_of kinds.Sync) texts q
+ask_at kinds.Ping q = Ok (ask.Ping, q)
+ask_at kinds.Multi q = read_as (ask_of kinds.Multi) (untils steps) q
+ask_at kinds.Auth q = read_as (ask_of kinds.Auth) showings q
+ask_at kinds.SetWatches q = read_as (ask_of kinds.SetWatches) watches q
+ask_at kinds.CloseSession q = Ok (ask.CloseSession, q)
+ask_at (kinds.Other z) q = read_as (ask_of (kinds.Other z)) remains q
+
+abbrev pub ask_parts : Form ((k : Kind) × Held k)
+ask_parts = tagged kind_forms held_forms
 
 -- int type, and the fields of that type
 abbrev pub asks : Form WireAsk
-asks = seen (λ t. ask_of t.0 t.1) (λ a. (ask_kind a, ask_held a)) (tagged kind_forms held_forms)
+asks = record {
+  Fits = λ a. ask_parts.Fits (ask_kind a, ask_held a);
+  spell = λ a. ask_parts.spell (ask_kind a, ask_held a);
+  read = λ p. kind_forms.read p >>= λ k. ask_at k.0 k.1;
+}
 
 -- int xid, int type, and the fields of that type
 abbrev pub requests : Form Request
 requests = seen (λ t. record { xid = t.0; ask = t.1 }) (λ r. (r.xid, r.ask)) (ints ⊗ asks)
+
+-- ---- what is written of a request behind its type
+
+-- the fields of an operation stand behind what was written before
+abbrev pub WroteOp : WireOp → List ℕ → List ℕ → Type 0
+WroteOp (op.Create path bytes acl flags) old new = Wrote creations (record { path = path; bytes = bytes; acl = acl; flags = flags }) old new
+WroteOp (op.Create2 path bytes acl flags) old new = Wrote creations (record { path = path; bytes = bytes; acl = acl; flags = flags }) old new
+WroteOp (op.Delete path version) old new = Wrote versioneds (record { path = path; version = version }) old new
+WroteOp (op.SetData path bytes version) old new = Wrote settings (record { path = path; bytes = bytes; version = version }) old new
+WroteOp (op.Check path version) old new = Wrote versioneds (record { path = path; version = version }) old new
+
+-- the fields of a request do
+abbrev pub WroteAsk : WireAsk → List ℕ → List ℕ → Type 0
+WroteAsk (ask.Create path bytes acl flags) old new = Wrote creations (record { path = path; bytes = bytes; acl = acl; flags = flags }) old new
+WroteAsk (ask.Create2 path bytes acl flags) old new = Wrote creations (record { path = path; bytes = bytes; acl = acl; flags = flags }) old new
+WroteAsk (ask.Delete path version) old new = Wrote versioneds (record { path = path; version = version }) old new
+WroteAsk (ask.Exists path watch) old new = Wrote watcheds (record { path = path; watch = watch }) old new
+WroteAsk (ask.GetData path watch) old new = Wrote watcheds (record { path = path; watch = watch }) old new
+WroteAsk (ask.SetData path bytes version) old new = Wrote settings (record { path = path; bytes = bytes; version = version }) old new
+WroteAsk (ask.GetAcl path) old new = Wrote texts path old new
+WroteAsk (ask.SetAcl path acl version) old new = Wrote acl_settings (record { path = path; acl = acl; version = version }) old new
+WroteAsk (ask.GetChildren path watch) old new = Wrote watcheds (record { path = path; watch = watch }) old new
+WroteAsk (ask.GetChildren2 path watch) old new = Wrote watcheds (record { path = path; watch = watch }) old new
+WroteAsk (ask.Sync path) old new = Wrote texts path old new
+WroteAsk ask.Ping old new = new ≡ old
+WroteAsk (ask.Check path version) old new = Wrote versioneds (record { path = path; version = version }) old new
+WroteAsk (ask.Multi ops) old new = Wrote (untils steps) ops old new
+WroteAsk (ask.Auth kind scheme auth) old new = Wrote showings (record { kind = kind; scheme = scheme; auth = auth }) old new
+WroteAsk (ask.SetWatches zxid contents exist child) old new = Wrote watches (record { zxid = zxid; contents = contents; exist = exist; child = child }) old new
+WroteAsk ask.CloseSession old new = new ≡ old
+WroteAsk (ask.Other kind rest) old new = new ≡ old ++ rest

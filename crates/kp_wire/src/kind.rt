@@ -35,6 +35,7 @@ pub enum LookKind {
 }
 
 // The type of that number.
+#[tactic(auto, unfolding(crate::specs::Kinds::kind_of))]
 pub fn kind_from(number: i32) -> Kind
     ensures { result ≡ kind_of number }
 {
@@ -47,7 +48,7 @@ pub fn kind_from(number: i32) -> Kind
     }
 }
 
-#[tactic(auto, using(crate::proofs::KindLaws::differ))]
+#[tactic(auto, using(crate::proofs::Differ::differ), unfolding(crate::specs::Kinds::look_named))]
 fn look_kind_from(number: i32) -> Option<LookKind>
     ensures { result ≡ look_named number }
 {
@@ -60,7 +61,7 @@ fn look_kind_from(number: i32) -> Option<LookKind>
     }
 }
 
-#[tactic(auto, using(crate::proofs::KindLaws::differ))]
+#[tactic(auto, using(crate::proofs::Differ::differ), unfolding(crate::specs::Kinds::plain_kind_of))]
 fn plain_kind_from(number: i32) -> Kind
     ensures { result ≡ plain_kind_of number }
 {
@@ -126,7 +127,7 @@ pub fn write_kind(writer: &mut Writer, kind: Kind) -> Result<(), NoMemory>
 }
 
 // Whether the type is the one that its number names.
-#[tactic(auto, using(crate::proofs::KindLaws::op_there, crate::proofs::KindLaws::look_there, crate::proofs::KindLaws::other_there))]
+#[tactic(auto, using(crate::proofs::KindLaws::as_named, crate::proofs::KindLaws::other_there))]
 fn is_as_named(kind: Kind) -> bool
     ensures { IsTrue result → kind_of (kind_number kind) ≡ kind }
 {

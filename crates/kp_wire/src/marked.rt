@@ -1,6 +1,6 @@
 //! Lists up to an end mark.
 
-ghost use Rattle.std.specs.Prelude.{◌≡◌, ◌++◌, Some, None, OnOk};
+ghost use Rattle.std.specs.Prelude.{◌≡◌, Option, Some, None, OnOk};
 ghost use Rattle.kp_jute.specs.Form.{Form, Gives, Wrote, WroteAll};
 ghost use Rattle.kp_jute.specs.Jute.{until_at, untils};
 ghost use Rattle.kp_wire.specs.Common.{listed};

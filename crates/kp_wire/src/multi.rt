@@ -4,7 +4,7 @@ ghost use Rattle.std.specs.Prelude.{◌≡◌, Some, OnOk};
 ghost use Rattle.kp_jute.specs.Form.{Gives, Wrote};
 ghost use Rattle.kp_jute.specs.Jute.{fixed_ints, fixed_booleans};
 ghost use Rattle.kp_wire.specs.declared.request.WireOp.TheVariants as ops;
-ghost use Rattle.kp_wire.specs.Request.{op_at, op_forms, op_kind, op_held, step_kinds, step_number, marks};
+ghost use Rattle.kp_wire.specs.Request.{op_at, op_kind, step_kinds, step_number, marks, WroteOp};
 
 use crate::fields::{read_creation, read_setting, read_versioned, Creation, Setting, Versioned};
 use crate::fields::{write_creation, write_setting, write_versioned};
@@ -46,7 +46,7 @@ impl Marked for WireOp {
 }
 
 // Reads the type of an operation, or None for the end; any other is refused.
-#[tactic(auto, using(crate::proofs::KindLaws::differ))]
+#[tactic(auto, using(crate::proofs::Differ::differ))]
 fn read_step_kind(reader: &mut Reader<'_>) -> Result<Option<OpKind>, JuteFail>
     ensures { Gives (λ k. k) result reader.new (step_kinds.read reader.old) }
 {
@@ -71,7 +71,7 @@ fn read_mark(reader: &mut Reader<'_>, last: bool) -> Result<(), JuteFail>
 }
 
 // Reads an int that has only one value.
-#[tactic(auto, using(crate::proofs::KindLaws::differ))]
+#[tactic(auto, using(crate::proofs::Differ::differ))]
 pub fn fixed_int(reader: &mut Reader<'_>, value: i32) -> Result<(), JuteFail>
     ensures { Gives (λ u. u) result reader.new ((fixed_ints value).read reader.old) }
 {
@@ -201,7 +201,7 @@ fn kind_of_op(op: &WireOp) -> OpKind
 
 // Writes the fields of an operation.
 fn write_op(writer: &mut Writer, op: &WireOp) -> Result<(), NoMemory>
-    ensures { OnOk result (Wrote (op_forms (op_kind op.now)) (op_held op.now) writer.old writer.new) }
+    ensures { OnOk result (WroteOp op.now writer.old writer.new) }
 {
     match op {
         WireOp::Create {

@@ -14,7 +14,7 @@ pub enum OpKind {
 }
 
 // The type of that number, None where a multi may hold none.
-#[tactic(auto, using(crate::proofs::KindLaws::differ))]
+#[tactic(auto, using(crate::proofs::Differ::differ), unfolding(crate::specs::OpKinds::op_named))]
 pub fn op_kind_from(number: i32) -> Option<OpKind>
     ensures { result ≡ op_named number }
 {

@@ -3,7 +3,7 @@
 ghost use Rattle.std.specs.Prelude.{◌≡◌, IfOk, OnOk};
 ghost use Rattle.kp_jute.specs.Form.{Wrote};
 ghost use Rattle.kp_wire.specs.Common.{Sends};
-ghost use Rattle.kp_wire.specs.Request.{requests, asks, ask_kind, ask_held, held_forms};
+ghost use Rattle.kp_wire.specs.Request.{requests, asks, ask_kind, WroteAsk};
 
 use crate::fields::{write_acl_setting, write_creation, write_setting, write_showing};
 use crate::fields::{write_versioned, write_watched, write_watches};
@@ -30,8 +30,15 @@ fn write_record(writer: &mut Writer, request: &Request) -> Result<(), NoMemory>
     ensures { OnOk result (Wrote requests request.now writer.old writer.new) }
 {
     writer.int(request.xid)?;
-    write_kind(writer, kind_of_ask(&request.ask))?;
-    write_fields(writer, &request.ask)?;
+    write_ask(writer, &request.ask)?;
+    Ok(())
+}
+
+fn write_ask(writer: &mut Writer, ask: &WireAsk) -> Result<(), NoMemory>
+    ensures { OnOk result (Wrote asks ask.now writer.old writer.new) }
+{
+    write_kind(writer, kind_of_ask(ask))?;
+    write_fields(writer, ask)?;
     Ok(())
 }
 
@@ -62,7 +69,7 @@ fn kind_of_ask(ask: &WireAsk) -> Kind
 
 // Writes the fields of a request.
 fn write_fields(writer: &mut Writer, ask: &WireAsk) -> Result<(), NoMemory>
-    ensures { OnOk result (Wrote (held_forms (ask_kind ask.now)) (ask_held ask.now) writer.old writer.new) }
+    ensures { OnOk result (WroteAsk ask.now writer.old writer.new) }
 {
     match ask {
         WireAsk::Create {

@@ -9,7 +9,7 @@ ghost use Rattle.kp_wire.specs.Common.{Tells};
 ghost use Rattle.kp_wire.specs.Request.{requests, ask_at, look_of};
 ghost use Rattle.kp_wire.specs.Request as form;
 
-use crate::fail::WireFail;
+use crate::fail::{told, WireFail};
 use crate::fields::{read_acl_setting, read_showing, read_watched, read_watches};
 use crate::fields::{AclSetting, Showing, Watched, Watches};
 use crate::kind::{read_kind, Kind, LookKind};
@@ -31,7 +31,7 @@ pub fn read_request(alloc: Global, frame: &[u8]) -> Result<Request, WireFail>
     // Which refusal it is, and where.
     ensures exact { Tells result (whole (packets requests) frame.now) }
 {
-    Ok(whole_request(alloc, frame)?)
+    told(whole_request(alloc, frame))
 }
 
 fn whole_request(alloc: Global, frame: &[u8]) -> Result<Request, JuteFail>

@@ -173,11 +173,7 @@ pub fn write_versioned(
     Ok(())
 }
 
-pub fn write_watched(
-    writer: &mut Writer,
-    path: &Option<Text>,
-    watch: bool,
-) -> Result<(), NoMemory>
+pub fn write_watched(writer: &mut Writer, path: &Option<Text>, watch: bool) -> Result<(), NoMemory>
     ensures { OnOk result (Wrote watcheds (record { path = path.now; watch = watch }) writer.old writer.new) }
 {
     write_text(writer, path)?;

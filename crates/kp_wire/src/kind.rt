@@ -5,7 +5,7 @@ ghost use Rattle.kp_jute.specs.Form.{Gives, Wrote};
 ghost use Rattle.kp_wire.specs.declared.kind.Kind.TheVariants as kinds;
 ghost use Rattle.kp_wire.specs.Kinds.{kind_of, plain_kind_of, kind_number, kind_forms, look_named, look_number};
 
-use crate::op_kind::{op_kind_from, op_number, OpKind};
+use crate::op_kind::{OpKind, op_kind_from, op_number};
 use kp_jute::{JuteFail, NoMemory, Reader, Writer};
 
 /// The type of a request: one of the table's, or any other number.

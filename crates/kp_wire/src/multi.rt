@@ -6,10 +6,12 @@ ghost use Rattle.kp_jute.specs.Jute.{fixed_ints, fixed_booleans};
 ghost use Rattle.kp_wire.specs.declared.request.WireOp.TheVariants as ops;
 ghost use Rattle.kp_wire.specs.Request.{op_at, op_kind, step_kinds, step_number, marks, WroteOp};
 
-use crate::fields::{read_creation, read_setting, read_versioned, Creation, Setting, Versioned};
-use crate::fields::{write_creation, write_setting, write_versioned};
+use crate::fields::{
+    Creation, Setting, Versioned, read_creation, read_setting, read_versioned, write_creation,
+    write_setting, write_versioned,
+};
 use crate::marked::Marked;
-use crate::op_kind::{op_kind_from, op_number, OpKind};
+use crate::op_kind::{OpKind, op_kind_from, op_number};
 use crate::request::WireOp;
 use kp_jute::{JuteFail, NoMemory, Reader, Writer};
 use std::alloc::Global;

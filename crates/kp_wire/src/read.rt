@@ -9,10 +9,12 @@ ghost use Rattle.kp_wire.specs.Common.{Tells};
 ghost use Rattle.kp_wire.specs.Request.{requests, ask_at, look_of};
 ghost use Rattle.kp_wire.specs.Request as form;
 
-use crate::fail::{told, WireFail};
-use crate::fields::{read_acl_setting, read_showing, read_watched, read_watches};
-use crate::fields::{AclSetting, Showing, Watched, Watches};
-use crate::kind::{read_kind, Kind, LookKind};
+use crate::fail::{WireFail, told};
+use crate::fields::{
+    AclSetting, Showing, Watched, Watches, read_acl_setting, read_showing, read_watched,
+    read_watches,
+};
+use crate::kind::{Kind, LookKind, read_kind};
 use crate::marked::read_marked;
 use crate::multi::read_op;
 use crate::request::{Request, WireAsk, WireOp};

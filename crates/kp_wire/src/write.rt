@@ -5,9 +5,11 @@ ghost use Rattle.kp_jute.specs.Form.{Wrote};
 ghost use Rattle.kp_wire.specs.Common.{Sends};
 ghost use Rattle.kp_wire.specs.Request.{requests, asks, ask_kind, WroteAsk};
 
-use crate::fields::{write_acl_setting, write_creation, write_setting, write_showing};
-use crate::fields::{write_versioned, write_watched, write_watches};
-use crate::kind::{write_kind, Kind, LookKind};
+use crate::fields::{
+    write_acl_setting, write_creation, write_setting, write_showing, write_versioned,
+    write_watched, write_watches,
+};
+use crate::kind::{Kind, LookKind, write_kind};
 use crate::marked::write_marked;
 use crate::op_kind::OpKind;
 use crate::request::{Request, WireAsk};

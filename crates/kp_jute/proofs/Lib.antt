@@ -7,4 +7,3 @@ pub mod Loops
 pub mod Numbers
 pub mod Packets
 pub mod Utf8
-pub mod Writes

@@ -37,15 +37,19 @@ until_again {A} f lf (suc n) (x ∷ xs) at rest lt fits =
     let len : at + length one + length (more ++ f.spell None) ≡ at + length ((untils f).spell (x ∷ xs)) = rw whole (omega (arith, length-append one (more ++ f.spell None))) in
     ap (λ (r : List ℕ). until_at f.read (suc n) (front at r)) regrouped ∙ rw (lf.again (Some x) at ((more ++ f.spell None) ++ rest) fits.0.0, until_again f lf n xs (at + length one) rest (omega (arith, lt)) (fits.0.1, fits.1)) (ap (λ (k : ℕ). Ok (x ∷ xs, front k rest)) len)
 
--- each value takes a byte at least
-not_shorter : {A : Type 0} (f : A → List ℕ) → ((a : A) → 0 < length (f a)) → (xs : List A) → length xs ≤ length (flat_map f xs)
-not_shorter f long [] = omega arith
-not_shorter f long (x ∷ xs) = rw flat_map-cons (omega (arith, long x, not_shorter f long xs, length-append (f x) (flat_map f xs)))
+-- each value that has a spelling takes a byte at least
+not_shorter : {A : Type 0} (f : Form (Option A)) → ((a : A) → f.Fits (Some a) → 0 < length (f.spell (Some a))) → (xs : List A) → AllByRecursion (λ x. f.Fits (Some x)) xs → length xs ≤ length (flat_map (λ x. f.spell (Some x)) xs)
+not_shorter f long [] fits = omega arith
+not_shorter f long (x ∷ xs) fits = rw flat_map-cons (omega (arith, long x fits.0, not_shorter f long xs fits.1, length-append (f.spell (Some x)) (flat_map (λ x. f.spell (Some x)) xs)))
 
-pub untils_lawful : {A : Type 0} (f : Form (Option A)) → ((a : A) → 0 < length (f.spell (Some a))) → Lawful f → Lawful (untils f)
-untils_lawful f long lf = record {
+-- the same where some values have no spelling, and those that have one take a byte at least
+pub spelled_untils_lawful : {A : Type 0} (f : Form (Option A)) → ((a : A) → f.Fits (Some a) → 0 < length (f.spell (Some a))) → Lawful f → Lawful (untils f)
+spelled_untils_lawful f long lf = record {
   takes = λ p v q fits e. until_takes f lf (suc (length p.rest)) p v q fits e;
   again = λ v at rest fits.
       let body = flat_map (λ x. f.spell (Some x)) v in
-      until_again f lf (suc (length ((untils f).spell v ++ rest))) v at rest (omega (arith, not_shorter (λ x. f.spell (Some x)) long v, length-append body (f.spell None), length-append (body ++ f.spell None) rest)) fits;
+      until_again f lf (suc (length ((untils f).spell v ++ rest))) v at rest (omega (arith, not_shorter f long v fits.0, length-append body (f.spell None), length-append (body ++ f.spell None) rest)) fits;
 }
+
+pub untils_lawful : {A : Type 0} (f : Form (Option A)) → ((a : A) → 0 < length (f.spell (Some a))) → Lawful f → Lawful (untils f)
+untils_lawful f long lf = spelled_untils_lawful f (λ a _. long a) lf

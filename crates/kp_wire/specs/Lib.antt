@@ -1,1 +1,4 @@
 pub mod Common
+pub mod Kinds
+pub mod OpKinds
+pub mod Request

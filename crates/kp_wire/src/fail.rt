@@ -1,7 +1,7 @@
 //! Why a frame could not be read.
 
 ghost use Rattle.std.specs.Prelude.{◌≡◌};
-ghost use Rattle.kp_wire.specs.Common.{wire_fail};
+ghost use Rattle.kp_wire.specs.Common.{refused_as};
 
 use kp_jute::JuteFail;
 
@@ -28,5 +28,15 @@ impl From<JuteFail> for WireFail {
                 WireFail::BadRecord { at: at as u64 }
             }
         }
+    }
+}
+
+// The same answer, with a refusal as one of the frame.
+pub fn told<T>(answer: Result<T, JuteFail>) -> Result<T, WireFail>
+    ensures { result ≡ refused_as answer }
+{
+    match answer {
+        Ok(value) => Ok(value),
+        Err(fail) => Err(WireFail::from(fail)),
     }
 }

@@ -1,5 +1,5 @@
 -- What a body's kind and its fields add.
-use Rattle.std.proofs.Common.{◌≡◌, ℕ, List, Option, Some, Result, Ok, Err, refl, sym, subst}
+use Rattle.std.proofs.Common.{◌≡◌, ℕ, List, Some, Result, Ok, Err, refl, sym, subst}
 use Rattle.std.specs.Prelude.{OnOk}
 use Rattle.kp_jute.specs.Form.{Wrote}
 use Rattle.kp_model.specs.declared.memory.NoMemory.{NoMemory}

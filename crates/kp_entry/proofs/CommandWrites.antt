@@ -1,10 +1,9 @@
 -- What a command's kind and its fields add.
-use Rattle.std.proofs.Common.{◌≡◌, ℕ, List, Option, Some, Result, Ok, Err, refl, sym, subst}
+use Rattle.std.proofs.Common.{◌≡◌, ℕ, List, Some, Result, Ok, Err, refl, sym, subst}
 use Rattle.std.specs.Prelude.{OnOk}
 use Rattle.kp_jute.specs.Form.{Wrote}
 use Rattle.kp_model.specs.declared.memory.NoMemory.{NoMemory}
 use Rattle.kp_model.specs.declared.command.Op.{Op}
-use Rattle.kp_model.specs.declared.command.Op.TheVariants as op
 use Rattle.kp_model.specs.declared.command.Cmd.{Cmd}
 use Rattle.kp_model.specs.declared.command.Cmd.TheVariants as cmd
 use Rattle.kp_entry.specs.declared.kinds.OpKind.{OpKind}

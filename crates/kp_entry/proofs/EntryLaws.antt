@@ -3,8 +3,7 @@ use Rattle.std.proofs.Common.{◌≡◌, ℕ, ◌+◌, List, [], ◌++◌, lengt
 use Rattle.std.proofs.lemmas.List.{append-nil}
 use Rattle.std.specs.Prelude.{IfOk}
 use Rattle.kp_jute.specs.declared.fault.JuteFail.{JuteFail}
-use Rattle.kp_jute.specs.declared.fault.JuteFail.TheVariants as jute
-use Rattle.kp_jute.specs.Form.{IsBytes, Takes, front, Lawful, Place, Form, ◌⊗◌, tagged}
+use Rattle.kp_jute.specs.Form.{IsBytes, front, Lawful, Place, Form, tagged}
 use Rattle.kp_jute.proofs.Combined.{seen_lawful, ok_is, ◌&◌}
 use Rattle.kp_jute.proofs.Cases.{tagged_lawful}
 use Rattle.kp_jute.proofs.Numbers.{booleans_lawful}
@@ -23,8 +22,8 @@ use Rattle.kp_entry.specs.declared.kinds.BodyKind.{BodyKind}
 use Rattle.kp_entry.specs.declared.kinds.BodyKind.TheVariants as body_kind
 use Rattle.kp_entry.specs.declared.fail.EntryFail.{EntryFail}
 use Rattle.kp_entry.specs.declared.fail.EntryFail.TheVariants as fail
-use Rattle.kp_entry.specs.Fields.{kinds, lists, acls}
-use Rattle.kp_entry.specs.Commands.{creations, versioned, settings, acl_settings, auths, op_kinds, op_number, OpFields, op_fields, op_with, op_to, op_from, ops, cmd_kinds, cmd_number, CmdFields, cmd_fields, cmd_with, cmd_to, cmd_from, cmds}
+use Rattle.kp_entry.specs.Fields.{kinds, acls}
+use Rattle.kp_entry.specs.Commands.{versioned, op_kinds, op_number, OpFields, op_fields, op_with, op_to, op_from, ops, cmd_kinds, cmd_number, CmdFields, cmd_fields, cmd_with, cmd_to, cmd_from, cmds}
 use Rattle.kp_entry.specs.Entries.{body_kinds, body_number, BodyFields, body_fields, body_to, body_from, bodies, entries}
 use Rattle.kp_entry.specs.Decoding.{IsRefusedAt, Decodes, BeginsWith, IsEntryOf}
 use Rattle.kp_entry.proofs.FieldLaws.{u32s_lawful, numbers_lawful, timeouts_lawful, blobs_lawful, strings_lawful, passwords_lawful, lists_lawful, kinds_lawful, units_lawful, origins_lawful, acls_lawful}

@@ -1,13 +1,13 @@
 -- The fields: each form is lawful.
-use Rattle.std.proofs.Common.{◌≡◌, ℕ, ◌+◌, ◌^◌, ◌<◌, Bool, true, false, cond, eqb, List, [], ◌∷◌, ◌++◌, length, Option, Some, None, Result, Ok, Err, refl, sym, ap, subst, ◌∙◌, append_assoc, arith, length-append}
+use Rattle.std.proofs.Common.{◌≡◌, ℕ, ◌+◌, ◌^◌, ◌<◌, Bool, true, false, cond, eqb, List, [], ◌∷◌, ◌++◌, length, Option, Some, Ok, Err, refl, sym, ap, subst, ◌∙◌, append_assoc, arith, length-append}
 use Rattle.std.specs.Int.{w8, w32, from_be_bytes, to_be_bytes}
-use Rattle.std.specs.List.{flat_map, AllByRecursion}
+use Rattle.std.specs.List.{flat_map}
 use Rattle.std.specs.Str.{is_utf8}
 use Rattle.std.proofs.lemmas.Bool.{eqb-true}
 use Rattle.std.proofs.lemmas.Int.{of_z-to_z}
 use Rattle.std.proofs.Math.Facts.{sfits_to_z, Fits-of_z, Fits-of_lt, Fits-lt-pow}
 use Rattle.kp_jute.specs.declared.fault.JuteFail.TheVariants.{BadByte}
-use Rattle.kp_jute.specs.Form.{IsBytes, Takes, front, Lawful, Place, ◌>>=◌, Form, ◌⊗◌}
+use Rattle.kp_jute.specs.Form.{IsBytes, Takes, front, Lawful, Place, Form, ◌⊗◌}
 use Rattle.kp_jute.specs.Jute.{unsigned, unsigned_at, raw_at, items_at}
 use Rattle.kp_jute.proofs.Combined.{bind_ok, guard_in, ok_is, Takes-then, seen_lawful, ◌&◌}
 use Rattle.kp_jute.proofs.Cases.{narrowed_lawful}

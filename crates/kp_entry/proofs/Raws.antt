@@ -1,5 +1,5 @@
 -- Bytes that were taken are as many as were asked for.
-use Rattle.std.proofs.Common.{◌≡◌, ◌≤◌, ℕ, List, length, take, ltb, Result, Ok, Err, subst, arith}
+use Rattle.std.proofs.Common.{◌≡◌, ◌≤◌, ℕ, List, length, take, ltb, Ok, subst, arith}
 use Rattle.std.proofs.lemmas.Bool.{ltb-false}
 use Rattle.std.proofs.lemmas.List.{length-take}
 use Rattle.kp_jute.specs.declared.fault.JuteFail.TheVariants.{Short}

@@ -1,6 +1,6 @@
 -- Records: their form is lawful.
-use Rattle.std.proofs.Common.{◌≡◌, ℕ, Option, Some, None, refl, sym, ap, ◌∙◌}
-use Rattle.kp_jute.specs.Form.{Lawful, Form, part, tagged}
+use Rattle.std.proofs.Common.{◌≡◌, Some, refl, sym, ap}
+use Rattle.kp_jute.specs.Form.{Lawful, tagged}
 use Rattle.kp_jute.proofs.Combined.{part_lawful, ◌&◌}
 use Rattle.kp_jute.proofs.Cases.{tagged_lawful}
 use Rattle.kp_entry.specs.declared.kinds.RecordKind.{RecordKind}

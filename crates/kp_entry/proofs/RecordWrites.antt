@@ -1,14 +1,13 @@
 -- What a record's kind and its fields add.
-use Rattle.std.proofs.Common.{◌≡◌, ℕ, List, ◌++◌, Option, Some, None, Result, Ok, Err, refl, sym, subst, ap, ◌∙◌}
+use Rattle.std.proofs.Common.{◌≡◌, ℕ, List, Some, Result, Ok, Err, refl, sym, subst}
 use Rattle.std.specs.Prelude.{OnOk}
-use Rattle.kp_jute.specs.Form.{Wrote, spelled_if, tagged}
+use Rattle.kp_jute.specs.Form.{Wrote, tagged}
 use Rattle.kp_model.specs.declared.memory.NoMemory.{NoMemory}
 use Rattle.kp_entry.specs.declared.kinds.RecordKind.{RecordKind}
 use Rattle.kp_entry.specs.declared.kinds.RecordKind.TheVariants as record_kind
 use Rattle.kp_entry.specs.declared.record.Record.{Record}
-use Rattle.kp_entry.specs.declared.record.Record.TheVariants as record_
 use Rattle.kp_entry.specs.Fields.{u8s, kind_in, kinds}
-use Rattle.kp_entry.specs.Records.{record_kinds, record_number, RecordFields, record_fields, record_with, records, IsRecord, Added}
+use Rattle.kp_entry.specs.Records.{record_kinds, record_number, RecordFields, record_fields, record_with, Added}
 use Rattle.kp_entry.proofs.Writes.{kind_written}
 
 record_known : (k : RecordKind) → kind_in record_kinds record_number (record_number k) ≡ Some k

@@ -1,12 +1,11 @@
 -- What the calls answer.
-use Rattle.std.specs.Prelude.{◌≡◌, ℕ, List, ◌++◌, length, Option, Some, None, Result, Ok, Err}
+use Rattle.std.specs.Prelude.{◌≡◌, ℕ, List, ◌++◌, length, Result, Ok, Err}
 use Rattle.kp_jute.specs.declared.fault.JuteFail.{JuteFail}
 use Rattle.kp_jute.specs.declared.fault.JuteFail.TheVariants as jute
 use Rattle.kp_jute.specs.Form.{Place, Form}
 use Rattle.kp_model.specs.LogEntry.{LogEntry}
 use Rattle.kp_entry.specs.declared.fail.EntryFail.{EntryFail}
 use Rattle.kp_entry.specs.declared.fail.EntryFail.TheVariants as fail
-use Rattle.kp_entry.specs.Entries.{entries}
 
 -- each refusal of a field makes the entry bad at that field
 abbrev pub fail_of : JuteFail → EntryFail

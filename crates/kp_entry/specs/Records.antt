@@ -1,5 +1,5 @@
 -- The records of a server's steps as bytes.
-use Rattle.std.specs.Prelude.{◌≡◌, ℕ, ◌+◌, ◌^◌, ◌<◌, Bool, true, false, nat_le, List, [], ◌∷◌, ◌++◌, length, map, Option, Some, None, IsTrue, ◌&&◌}
+use Rattle.std.specs.Prelude.{◌≡◌, ℕ, Bool, true, false, nat_le, List, [], ◌∷◌, ◌++◌, Option, Some, None, IsTrue, ◌&&◌}
 use Rattle.std.specs.List.{flat_map, list_any}
 use Rattle.kp_model.specs.Grammar.{is_number}
 use Rattle.kp_model.specs.LogEntry.{LogEntry}

@@ -1,9 +1,8 @@
 -- What the store keeps, through its calls.
-use Rattle.std.proofs.Common.{◌≡◌, Some, get_or, sym, subst, ℕ, ◌+◌, ◌<◌, ◌≤◌, List, [], ◌∷◌, ◌++◌, zero, suc, length, arith, length-append}
-use Rattle.std.specs.FinMap as map
+use Rattle.std.proofs.Common.{◌≡◌, get_or, sym, subst, ℕ, ◌+◌, ◌<◌, ◌≤◌, List, [], ◌∷◌, ◌++◌, zero, suc, length, take, arith, length-append}
+use Rattle.std.proofs.lemmas.List.{length-take}
 use Rattle.std.specs.List.{All}
-use Rattle.std.proofs.lemmas.Bool.Decides.{nat_tests}
-use Rattle.std.proofs.lemmas.List.Elements.{All-append}
+use Rattle.std.proofs.lemmas.List.Elements.{All-append, All-take}
 use Rattle.std.proofs.lemmas.List.Sums.{list_all-from_AllPass}
 use Rattle.kp_model.specs.Grammar.{is_entry}
 use Rattle.kp_model.specs.Good.{IsSound}
@@ -11,7 +10,6 @@ use Rattle.kp_model.specs.LogEntry.{LogEntry}
 use Rattle.kp_model.specs.State.{State, empty}
 use Rattle.kp_model.specs.Store.{after}
 use Rattle.kp_model.proofs.GoodEmpty.{empty_sound}
-use Rattle.kp_model.specs.declared.node.Node.{Node}
 use Rattle.kp_model.specs.Step.{apply}
 use Rattle.kp_model.proofs.GoodSteps.{apply_sound, after_sound}
 use Rattle.kp_model.specs.Built.{IsTaken}
@@ -45,6 +43,13 @@ pub first_sound : (s new : State) (es : List LogEntry) (e : LogEntry) → All Is
     → new ≡ (apply s e).state → IsSound new
 first_sound s new es e taken sound room some at same = subst IsSound (sym same) (apply_sound s e (taken_at es 0 e taken some at).0 room sound)
 
--- the length of the data that a node has
-pub fits_found : (s : State) (p : List ℕ) (n : Node) → IsSound s → map.get s.nodes p ≡ Some n → length n.bytes ≤ 4294967295
-fits_found s p n h found = let fits = (h.good.numbers p n found).bytes in grind (arith, nat_tests, fits)
+-- the state that took the entry at a place in
+pub next_sound : (s new : State) (es : List LogEntry) (i : ℕ) (e : LogEntry) → All IsTaken es → IsSound s → s.applied < 4611686018427387904 → i < length es → e ≡ get_or es i e
+    → new ≡ (apply s e).state → IsSound new
+next_sound s new es i e taken sound room lt at same = subst IsSound (sym same) (apply_sound s e (taken_at es i e taken lt at).0 room sound)
+
+-- the state behind the entries before a place
+pub before_sound : (s t : State) (es : List LogEntry) (i : ℕ) → All IsTaken es → IsSound s → s.applied + length es ≤ 4611686018427387904 → t ≡ after s (take i es) → IsSound t
+before_sound s t es i taken sound room same =
+    let first : All IsTaken (take i es) = All-take IsTaken i es taken in
+    subst IsSound (sym same) (after_sound s (take i es) (list_all-from_AllPass is_entry (take i es) (λ k d lt. (first k d lt).0)) (omega (arith, room, length-take i es)) sound)

@@ -1,6 +1,6 @@
-mod SortedMap
-mod Placed
-mod LastSlash
-mod Replay
-mod Changed
-mod Keeping
+pub mod SortedMap
+pub mod Placed
+pub mod Shows
+pub mod Listing
+pub mod Replay
+pub mod Keeping

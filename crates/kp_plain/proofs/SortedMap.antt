@@ -46,6 +46,10 @@ module _ {K X : Type 0} (R : K → K → Ordering) where
   pub count_sorted : (p : K → Bool) (es : List (K × X)) → IsTrue (is_sorted R es) → length (filter p (fin.keys (from_sorted {R = R} es))) ≡ count_by (λ (e : K × X). p e.0) es
   count_sorted p es h = ap (λ fs. length (filter p (map (λ e. e.0) fs))) (entries-from_sorted R es (to_T _ h)) ∙ ap length (filter_keys p es) ∙ length-map (filter (λ (e : K × X). p e.0) es) (λ (e : K × X). e.0) ∙ length-filter (λ (e : K × X). p e.0) es
 
+  -- the keys
+  pub keys_sorted : (es : List (K × X)) → IsTrue (is_sorted R es) → fin.keys (from_sorted {R = R} es) ≡ map (λ (e : K × X). e.0) es
+  keys_sorted es h = ap (map (λ (e : K × X). e.0)) (entries-from_sorted R es (to_T _ h))
+
   pub get_sorted : (es : List (K × X)) (q : K) → IsTrue (is_sorted R es) → fin.get (from_sorted {R = R} es) q ≡ find R q es
   get_sorted es q h = get-from_sorted R es q (to_T _ h)
 

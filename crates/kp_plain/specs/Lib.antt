@@ -1,3 +1,5 @@
 pub mod Place
+pub mod Beside
+pub mod Picked
 pub mod Outcomes
 pub mod Kept

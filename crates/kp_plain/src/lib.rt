@@ -2,13 +2,10 @@
 //! each question. It is slow and short, and says what any store must answer.
 #![tactic(auto)]
 
-mod answer;
-mod change;
-mod checks;
 mod nodes;
-mod path;
-mod rights;
+mod pick;
 mod sessions;
+mod shown;
 mod sorted;
 mod store;
 #[cfg(test)]

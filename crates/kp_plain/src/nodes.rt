@@ -1,35 +1,40 @@
-ghost use Rattle.std.specs.Prelude.{◌≡◌, ℕ, List, length, count_by, IfOk, OnOk, OnErr};
-ghost use Rattle.kp_model.specs.declared.node.Node.{Node as PathNode};
-ghost use Rattle.kp_model.specs.State.{children as children_of, is_child as child};
+ghost use Rattle.std.specs.Prelude.{◌≡◌, ◌≤◌, ◌++◌, ℕ, List, [], ◌∷◌, cond, map as each, length, IfOk, OnOk};
+ghost use Rattle.std.specs.List.{filter};
 ghost use Rattle.std.specs.Option.{option_copied};
 ghost use Rattle.std.specs.FinMap as map;
+ghost use Rattle.kp_model.specs.declared.node.Node.{Node as PathNode};
+ghost use Rattle.kp_model.specs.State.{meta_at, is_owned as owned};
+ghost use Rattle.kp_plain.specs.Picked.{picks};
 
-use crate::path::parent;
-use crate::sorted::{find_in, put_in, remove_from};
-use kp_model::{NoMemory, Node, Text};
+use crate::pick::Pick;
+use crate::shown::{is_child, show_both};
+use crate::sorted::{find_path, put_in, remove_from};
+use kp_model::{Meta, NoMemory, Node, Paths, Text};
 use std::alloc::Global;
 use std::marker::Model;
 
-/// The nodes by their paths, which contracts see as a finite map.
+/// The nodes by their paths, which contracts see as a finite map. What is shown of each stands beside them.
 #[derive(Drop)]
 pub struct Nodes {
     // In the order of the paths.
     items: Vec<(Text, Node)>,
+    // What is shown of each of them, in the same order.
+    metas: Vec<(Text, Meta)>,
 }
 
 impl Model for Nodes {
-    ghost use Rattle.std.specs.Prelude.{IsTrue};
     ghost use Rattle.std.specs.FinMap as map;
-    ghost use Rattle.kp_model.specs.State.{Nodes as PathMap, path_cmp};
+    ghost use Rattle.kp_model.specs.State.{Nodes as PathMap};
     ghost use Rattle.kp_model.specs.Codes.{nodes_code};
+    ghost use Rattle.kp_plain.specs.Beside.{as_map, AreShown};
 
     ghost Value = { PathMap };
 
     ghost coded = { nodes_code };
 
-    ghost view = { λ n. map.from_sorted n.items.items };
+    ghost view = { λ n. as_map n.items.items };
 
-    ghost invariant = { λ n. IsTrue (map.is_sorted path_cmp n.items.items) };
+    ghost invariant = { λ n. AreShown n.items.items n.metas.items };
 }
 
 impl Nodes {
@@ -39,37 +44,56 @@ impl Nodes {
     {
         Nodes {
             items: Vec::new(alloc),
+            metas: Vec::new(alloc),
         }
     }
 
     /// Lends the node of a path; None exactly where there is none.
-    pub fn get(&self, path: &Text) -> Option<&Node>
+    pub fn get(&self, path: &str) -> Option<&Node>
         ensures { option_copied result ≡ map.get self.now path.now }
     {
-        find_in(self.items.as_slice(), path)
+        find_path(self.items.as_slice(), path)
     }
 
-    /// Sets the node of a path. Without memory the nodes stay as they were.
-    pub fn put(&mut self, path: Text, node: Node) -> Result<(), NoMemory>
-        ensures ok { OnOk result (self.new ≡ map.insert self.old path node) }
-        ensures err { OnErr result (self.new ≡ self.old) }
+    /// Lends what is shown of the node of a path; None exactly where there is none.
+    pub fn meta(&self, path: &str) -> Option<&Meta>
+        ensures { option_copied result ≡ meta_at self.now path.now }
     {
-        put_in(&mut self.items, path, node)?;
-        Ok(())
+        find_path(self.metas.as_slice(), path)
     }
 
-    /// Removes the node of a path, where there is one. Takes no memory.
-    pub fn remove(&mut self, path: &Text)
-        ensures { self.new ≡ map.remove self.old path.now }
+    /// The nodes with the one of a path set.
+    pub fn with(self, alloc: Global, path: &str, node: Node) -> Result<Nodes, NoMemory>
+        requires { length node.bytes ≤ 4294967295 }
+        ensures { IfOk result (λ nodes. nodes ≡ map.insert self path.now node) }
     {
-        remove_from(&mut self.items, path);
+        let Nodes {
+            mut items,
+            mut metas,
+        } = self;
+        put_in(&mut items, Text::from_str(alloc, path)?, node)?;
+        show_both(alloc, items.as_slice(), &mut metas, path)?;
+        Ok(Nodes { items, metas })
     }
 
-    /// How many children a path has.
-    pub fn count_children(&self, path: &str) -> usize
-        ensures { result ≡ length (children_of self.now path.now) }
+    /// The nodes without the one of a path, where there is one.
+    pub fn without(self, alloc: Global, path: &str) -> Result<Nodes, NoMemory>
+        ensures { IfOk result (λ nodes. nodes ≡ map.remove self path.now) }
     {
-        count_in(self.items.as_slice(), path)
+        let Nodes {
+            mut items,
+            mut metas,
+        } = self;
+        remove_from(&mut items, &Text::from_str(alloc, path)?);
+        show_both(alloc, items.as_slice(), &mut metas, path)?;
+        Ok(Nodes { items, metas })
+    }
+
+    /// The paths that are picked, ascending.
+    pub fn picked(&self, alloc: Global, pick: &Pick) -> Result<Paths, NoMemory>
+        ensures { IfOk result (λ paths. paths ≡ filter (picks self.now pick.now) (map.keys self.now)) }
+    {
+        gathered(alloc, self, self.items.as_slice(), pick)
     }
 
     /// An equal value with memory of its own.
@@ -78,6 +102,7 @@ impl Nodes {
     {
         Ok(Nodes {
             items: copies(alloc, self.items.as_slice())?,
+            metas: copied_metas(alloc, self.metas.as_slice())?,
         })
     }
 }
@@ -92,18 +117,66 @@ fn copies(alloc: Global, from: &[(Text, Node)]) -> Result<Vec<(Text, Node)>, NoM
     Ok(items)
 }
 
-#[tactic(auto, unfolding(kp_model::specs::State::is_child))]
-fn is_child(path: &str, other: &str) -> bool
-    ensures { result ≡ child path.now other.now }
+fn copied_metas(alloc: Global, from: &[(Text, Meta)]) -> Result<Vec<(Text, Meta)>, NoMemory>
+    ensures { IfOk result (λ made. made.items ≡ from.now) }
 {
-    other != "/" && parent(other) == path
+    let mut items = Vec::new(alloc);
+    for (path, meta) in from {
+        items.push((path.copy(alloc)?, *meta))?;
+    }
+    Ok(items)
 }
 
-fn count_in(items: &[(Text, Node)], path: &str) -> usize
-    ensures { result ≡ count_by (λ (e : List ℕ × PathNode). child path.now e.0) items.now }
+// Whether a session owns the node of a path.
+fn is_owned(nodes: &Nodes, path: &str, id: u64) -> bool
+    ensures { result ≡ owned nodes.now id path.now }
 {
-    items
-        .iter()
-        .filter(|item| is_child(path, item.0.as_str()))
-        .count()
+    match nodes.get(path) {
+        None => false,
+        Some(node) => node.owner == id,
+    }
+}
+
+// Whether a path is picked.
+fn is_picked(nodes: &Nodes, pick: &Pick, path: &str) -> bool
+    ensures { result ≡ picks nodes.now pick.now path.now }
+{
+    match pick {
+        Pick::Every => true,
+        Pick::ChildOf(up) => is_child(up.as_str(), path),
+        Pick::OwnedBy(id) => is_owned(nodes, path, *id),
+    }
+}
+
+// Adds a path, where it is picked.
+fn visit(
+    alloc: Global,
+    nodes: &Nodes,
+    pick: &Pick,
+    path: &str,
+    found: &mut Paths,
+) -> Result<(), NoMemory>
+    ensures { OnOk result (found.new ≡ found.old ++ cond (picks nodes.now pick.now path.now) (path.now ∷ []) []) }
+{
+    if is_picked(nodes, pick, path) {
+        found.push(Text::from_str(alloc, path)?)
+    } else {
+        Ok(())
+    }
+}
+
+// The paths of entries that are picked.
+fn gathered(
+    alloc: Global,
+    nodes: &Nodes,
+    items: &[(Text, Node)],
+    pick: &Pick,
+) -> Result<Paths, NoMemory>
+    ensures { IfOk result (λ paths. paths ≡ filter (picks nodes.now pick.now) (each (λ (e : List ℕ × PathNode). e.0) items.now)) }
+{
+    let mut found = Paths::new(alloc);
+    for (path, _) in items {
+        visit(alloc, nodes, pick, path.as_str(), &mut found)?;
+    }
+    Ok(found)
 }

@@ -1,11 +1,12 @@
-ghost use Rattle.std.specs.Prelude.{◌≡◌, IfOk, OnOk, OnErr};
+ghost use Rattle.std.specs.Prelude.{◌≡◌, ℕ, map as each, IfOk, OnOk, OnErr};
+ghost use Rattle.kp_model.specs.declared.session.Session.{Session as NumberedSession};
 ghost use Rattle.std.specs.Option.{option_copied};
 ghost use Rattle.std.specs.FinMap as map;
 ghost use Rattle.std.specs.List.{list_any};
 ghost use Rattle.kp_model.specs.State.{is_held as held};
 ghost use Rattle.kp_plain.specs.Outcomes.{has_holder};
 
-use crate::sorted::{find_in, put_in};
+use crate::sorted::{find_in, put_in, remove_from};
 use kp_model::{NoMemory, Origin, Session};
 use std::alloc::Global;
 use std::marker::Model;
@@ -59,6 +60,20 @@ impl Sessions {
         Ok(())
     }
 
+    /// Removes the session of a number, where there is one. Takes no memory.
+    pub fn remove(&mut self, number: u64)
+        ensures { self.new ≡ map.remove self.old number }
+    {
+        remove_from(&mut self.items, &number);
+    }
+
+    /// The numbers of the sessions, ascending.
+    pub fn numbers(&self, alloc: Global) -> Result<Vec<u64>, NoMemory>
+        ensures { IfOk result (λ numbers. numbers.items ≡ map.keys self.now) }
+    {
+        numbers_of(alloc, self.items.as_slice())
+    }
+
     /// Whether one of the sessions is held by this origin.
     pub fn is_held(&self, origin: &Origin) -> bool
         ensures { result ≡ held self.now origin.now }
@@ -84,6 +99,17 @@ fn copies(alloc: Global, from: &[(u64, Session)]) -> Result<Vec<(u64, Session)>,
         items.push((*number, session.copy(alloc)?))?;
     }
     Ok(items)
+}
+
+// The numbers of entries.
+fn numbers_of(alloc: Global, from: &[(u64, Session)]) -> Result<Vec<u64>, NoMemory>
+    ensures { IfOk result (λ numbers. numbers.items ≡ each (λ (e : ℕ × NumberedSession). e.0) from.now) }
+{
+    let mut numbers = Vec::new(alloc);
+    for (number, _) in from {
+        numbers.push(*number)?;
+    }
+    Ok(numbers)
 }
 
 fn is_holder(sessions: &[(u64, Session)], origin: &Origin) -> bool

@@ -3,9 +3,10 @@ ghost use Rattle.std.specs.Option.{option_copied};
 ghost use Rattle.std.specs.FinMap.{find, put};
 ghost use Rattle.std.specs.FinMap.Entries.{where_key};
 ghost use Rattle.std.specs.Ordering.{eq_by_cmp};
+ghost use Rattle.kp_model.specs.State.{path_cmp};
 ghost use Rattle.kp_plain.specs.Place.{StandsFor};
 
-use kp_model::NoMemory;
+use kp_model::{NoMemory, Text};
 use std::cmp::Ordering;
 
 /// Where a key is, or where it would go.
@@ -20,6 +21,18 @@ pub fn find_in<'a, K: Ord, V>(items: &'a [(K, V)], key: &K) -> Option<&'a V>
 {
     for (k, v) in items {
         if key.cmp(k) == Ordering::Equal {
+            return Some(v);
+        }
+    }
+    None
+}
+
+/// What the entries have at a path.
+pub fn find_path<'a, V>(items: &'a [(Text, V)], path: &str) -> Option<&'a V>
+    ensures { option_copied result ≡ find path_cmp path.now items.now }
+{
+    for (p, v) in items {
+        if path.cmp(p.as_str()) == Ordering::Equal {
             return Some(v);
         }
     }

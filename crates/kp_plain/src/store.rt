@@ -8,9 +8,9 @@ ghost use Rattle.kp_model.specs.Step.{apply, Outcome};
 ghost use Rattle.kp_model.specs.Store.{after, latest, last as last_of, empty, with_entry, kept as kept_of, outcome_in, truncated, commit_answer, commit_leaves};
 ghost use Rattle.kp_model.specs.Built.{is_built, IsTaken};
 
-use crate::answer::Answer;
 use crate::tree::Tree;
-use kp_model::{Committed, Entry, NoMemory, Reply, Seen, Session};
+use kp_model::{Committed, Entry, NoMemory, Reply, Seen, Session, View};
+use kp_prep::Prepared;
 use std::alloc::Global;
 use std::marker::Model;
 
@@ -49,27 +49,27 @@ fn copied(alloc: Global, entry: &Entry) -> Result<Entry, NoMemory>
     entry.copy(alloc)
 }
 
-// Takes one entry in, without its answer.
-fn step(alloc: Global, tree: &mut Tree, entry: &Entry) -> Result<(), NoMemory>
-    requires room { tree.old.applied < 2 ^ 62 }
-    requires built { IsTrue (is_built entry.now.body) }
-    ensures { OnOk result (tree.new ≡ (apply tree.old entry.now).state) }
+// The state behind one entry.
+fn step(alloc: Global, tree: Tree, entry: &Entry) -> Result<Tree, NoMemory>
+    requires room { tree.applied < 2 ^ 62 }
+    requires sound { IsSound tree }
+    ensures { IfOk result (λ t. t ≡ (apply tree entry.now).state) }
 {
-    let Answer { reply, events } = tree.apply(alloc, entry)?;
-    drop(reply);
-    drop(events);
-    Ok(())
+    let (tree, prepared) = tree.take(alloc, entry)?;
+    drop(prepared);
+    Ok(tree)
 }
 
 // The state behind some entries.
 fn replayed(alloc: Global, state: &Tree, entries: &[Entry]) -> Result<Tree, NoMemory>
     requires room { state.now.applied + length entries.now ≤ 2 ^ 62 }
     requires taken { All IsTaken entries.now }
+    requires sound { IsSound state.now }
     ensures { IfOk result (λ t. t ≡ after state.now entries.now) }
 {
     let mut tree = state.copy(alloc)?;
     for entry in entries {
-        step(alloc, &mut tree, entry)?;
+        tree = step(alloc, tree, entry)?;
     }
     Ok(tree)
 }
@@ -83,14 +83,17 @@ fn kept_at(
 ) -> Result<Option<Reply>, NoMemory>
     requires room { state.now.applied + length entries.now ≤ 2 ^ 62 }
     requires taken { All IsTaken entries.now }
+    requires sound { IsSound state.now }
     ensures { IfOk result (λ r. r ≡ option_map (λ (o : Outcome). o.reply) (outcome_in state.now entries.now place)) }
 {
     if place >= entries.len() as u64 {
         return Ok(None);
     }
     let place = place as usize;
-    let mut tree = replayed(alloc, state, &entries[..place])?;
-    let Answer { reply, events } = tree.apply(alloc, &entries[place])?;
+    let tree = replayed(alloc, state, &entries[..place])?;
+    let (tree, prepared) = tree.take(alloc, &entries[place])?;
+    drop(tree);
+    let Prepared { reply, events } = prepared;
     drop(events);
     Ok(Some(reply))
 }
@@ -110,8 +113,9 @@ fn first_applied(
     ensures applied { IfOk result (λ x. x.0.applied ≡ state.now.applied + 1) }
     ensures sound { IfOk result (λ x. IsSound x.0) }
 {
-    let mut tree = state.copy(alloc)?;
-    let Answer { reply, events } = tree.apply(alloc, &entries[0])?;
+    let tree = state.copy(alloc)?;
+    let (tree, prepared) = tree.take(alloc, &entries[0])?;
+    let Prepared { reply, events } = prepared;
     let index = tree.applied();
     Ok((
         tree,

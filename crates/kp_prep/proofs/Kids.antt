@@ -160,3 +160,13 @@ module _ (nodes : Nodes) (path : List ℕ) (u v w : Node) (has_parent : map.get 
       counted (map.remove with_up path) q
       ∙ ap map.len (chosen-past path_total path_same (λ k _. is_child q k) with_up path (const_picked _ (map.get with_up path) (no_other_child q path h)) ∙ kids-over nodes (parent path) u v q has_parent)
       ∙ sym (counted nodes q)
+
+-- the counts of all paths but the parent's, where a node is set or taken away
+pub count-beside : (nodes : Nodes) (k : List ℕ) (v : Node) (p : List ℕ) → eq_by_cmp path_cmp p (parent k) ≡ false → length (children (map.insert nodes k v) p) ≡ length (children nodes p)
+count-beside nodes k v p h = counted (map.insert nodes k v) p ∙ ap map.len (kids-beside nodes k v p (no_other_child p k h)) ∙ sym (counted nodes p)
+
+pub count-without : (nodes : Nodes) (k p : List ℕ) → eq_by_cmp path_cmp p (parent k) ≡ false → length (children (map.remove nodes k) p) ≡ length (children nodes p)
+count-without nodes k p h =
+    counted (map.remove nodes k) p
+    ∙ ap map.len (chosen-past path_total path_same (λ q _. is_child p q) nodes k (const_picked _ (map.get nodes k) (no_other_child p k h)))
+    ∙ sym (counted nodes p)

@@ -7,19 +7,12 @@ ghost use Rattle.kp_jute.specs.Jute.{unsigned_of, valid_text};
 ghost use Rattle.kp_model.specs.Grammar.{is_number, is_timeout, is_origin};
 ghost use Rattle.kp_entry.specs.Fields.{u8s, numbers, timeouts, blobs, strings, passwords, origins};
 
+use crate::limits::{GREATEST_TIMEOUT, LAST_NUMBER, LEAST_TIMEOUT};
 use crate::list::Item;
 use crate::put_fields::{put_text, put_word};
 use kp_jute::{JuteFail, Reader};
 use kp_model::{Acl, Bytes, NoMemory, Origin, Text};
 use std::alloc::Global;
-
-/// The greatest index, term, time, session, epoch and running number.
-const LAST_NUMBER: u64 = 4611686018427387904;
-
-/// The least and the greatest timeout of a session, in milliseconds.
-const LEAST_TIMEOUT: u32 = 10_000;
-
-const GREATEST_TIMEOUT: u32 = 100_000;
 
 /// Reads a byte.
 #[tactic(auto, using(crate::proofs::Raws::raw_len), unfolding(kp_jute::specs::Jute::unsigned_at))]

@@ -7,6 +7,7 @@ mod entry;
 mod fail;
 mod fields;
 mod kinds;
+mod limits;
 mod list;
 mod promises;
 mod put_body;

@@ -5,13 +5,11 @@ ghost use Rattle.kp_jute.specs.Form.{Form, Gives, Wrote, WroteAll};
 ghost use Rattle.kp_jute.specs.Jute.{items_at};
 ghost use Rattle.kp_entry.specs.Fields.{lists};
 
+use crate::limits::MOST;
 use crate::put_fields::put_word;
 use kp_jute::{JuteFail, Reader};
 use kp_model::{Items, NoMemory};
 use std::alloc::Global;
-
-/// The greatest count that a field of 4 bytes holds.
-const MOST: usize = 4_294_967_295;
 
 /// What a list may hold.
 pub trait Item: Sized {

@@ -1,6 +1,5 @@
 //! Writing the fields that the log's formats have in common. Each call that answers Ok was given a value that the
-//! format has, and added exactly its spelling. Where one answers `NoMemory`, what was written before is still the
-//! beginning, and more may stand behind it.
+//! format has, and added exactly its spelling. Where one answers `NoMemory`, the bytes are to be dropped.
 
 ghost use Rattle.std.specs.Prelude.{◌≡◌, ◌<◌, ◌^◌, length, true, OnOk};
 ghost use Rattle.std.specs.Str.{is_utf8};
@@ -8,18 +7,8 @@ ghost use Rattle.kp_jute.specs.Form.{Wrote};
 ghost use Rattle.kp_jute.specs.Jute.{booleans};
 ghost use Rattle.kp_entry.specs.Fields.{u8s, u32s, u64s, numbers, timeouts, blobs, strings, passwords, origins};
 
+use crate::limits::{GREATEST_TIMEOUT, LAST_NUMBER, LEAST_TIMEOUT, MOST};
 use kp_model::{NoMemory, Origin, Text};
-
-/// The greatest index, term, time, session, epoch and running number.
-const LAST_NUMBER: u64 = 4611686018427387904;
-
-/// The least and the greatest timeout of a session, in milliseconds.
-const LEAST_TIMEOUT: u32 = 10_000;
-
-const GREATEST_TIMEOUT: u32 = 100_000;
-
-/// The greatest length that a field of 4 bytes holds.
-const MOST: usize = 4_294_967_295;
 
 /// Writes a byte.
 #[tactic(auto, unfolding(kp_jute::specs::Jute::unsigned))]

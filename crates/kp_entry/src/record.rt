@@ -9,17 +9,12 @@ ghost use Rattle.kp_entry.specs.Records.{votes, ballots, record_kinds, record_nu
 use crate::body::read_entry;
 use crate::fields::{read_byte, read_number};
 use crate::kinds::RecordKind;
+use crate::limits::{LAST_NUMBER, LAST_VOTE};
 use crate::put_body::put_entry;
 use crate::put_fields::{put_byte, put_number};
 use kp_jute::{JuteFail, Reader};
 use kp_model::{Duplicate, Entry, NoMemory};
 use std::alloc::Global;
-
-/// The greatest number of a server that a vote may be for.
-const LAST_VOTE: u8 = 7;
-
-/// The greatest index and term.
-const LAST_NUMBER: u64 = 4611686018427387904;
 
 /// What a server must keep of one step, so that it is there after a stop.
 #[derive(Debug, Drop)]

@@ -5,13 +5,11 @@ ghost use Rattle.std.specs.List.{list_any};
 ghost use Rattle.kp_entry.specs.Records.{Added, IsRun, has_base, is_base, spelled};
 ghost use Rattle.kp_entry.specs.Keeping.{records_in, AreEnds};
 
+use crate::limits::MOST;
 use crate::record::{Record, put_record};
 use kp_model::NoMemory;
 use std::alloc::Global;
 use std::marker::Model;
-
-/// The greatest number of bytes that a list of records may have.
-const MOST: usize = 4_294_967_295;
 
 /// A record, and where its bytes end among those of all.
 #[derive(Debug, Drop)]
@@ -72,7 +70,7 @@ impl Records {
         value_at(&self.items, index)
     }
 
-    /// Whether the last one is a base.
+    /// Whether there is a base, which is the last one then.
     #[tactic(auto, using(crate::proofs::Kepts::any_in))]
     pub fn has_base(&self) -> bool
         ensures { result ≡ has_base self.now }

@@ -1,7 +1,7 @@
 //! Why a frame could not be read.
 
 ghost use Rattle.std.specs.Prelude.{◌≡◌};
-ghost use Rattle.kp_wire.specs.Common.{wire_fail};
+ghost use Rattle.kp_wire.specs.Common.{wire_fail, refused_as};
 
 use kp_jute::JuteFail;
 
@@ -28,5 +28,15 @@ impl From<JuteFail> for WireFail {
                 WireFail::BadRecord { at: at as u64 }
             }
         }
+    }
+}
+
+// The same answer, where a refusal is one of the frame.
+pub fn told<T: Drop>(read: Result<T, JuteFail>) -> Result<T, WireFail>
+    ensures { result ≡ refused_as read }
+{
+    match read {
+        Ok(value) => Ok(value),
+        Err(fail) => Err(WireFail::from(fail)),
     }
 }

@@ -1,0 +1,12 @@
+pub mod ConnectLaws
+pub mod EventLaws
+pub mod PacketLaws
+pub mod PartLaws
+pub mod ReplyLaws
+pub mod ResultLaws
+pub mod StatLaws
+pub mod ResultSteps
+pub mod MultiSteps
+pub mod ReplySteps
+pub mod PacketSteps
+pub mod WholePackets

@@ -1,7 +1,7 @@
 -- Packets: the bytes of one by themselves, its length written over the gap, and the law of their form.
 use Rattle.std.proofs.Common.{◌≡◌, ℕ, zero, suc, ◌+◌, ◌^◌, ◌<◌, ◌≤◌, List, [], ◌∷◌, ◌++◌, length, take, drop, set, Option, Some, None, Result, Ok, Err, refl, sym, ap, subst, ◌∙◌, append_assoc, arith, length-append}
 use Rattle.std.specs.Prelude.{IfSome}
-use Rattle.std.proofs.lemmas.List.{drop-take}
+use Rattle.std.proofs.lemmas.List.{drop-take, length-drop, nil_from_length}
 use Rattle.kp_jute.specs.declared.fault.JuteFail.{JuteFail}
 use Rattle.kp_jute.specs.Form.{IsBytes, Takes, front, LawfulAtEnd, Lawful, Place, ◌>>=◌, Form, ended}
 use Rattle.kp_jute.specs.Jute.{count, count_at, present_length, raw_at, packet_at, packets, buffer}
@@ -12,6 +12,9 @@ use Rattle.kp_jute.proofs.AtEnd.{ended_ok, ended_again}
 
 pub part_of : {A : Type 0} (n m : ℕ) (xs : List A) → drop n (take (n + m) xs) ≡ take m (drop n xs)
 part_of n m xs = drop-take n m xs
+
+pub none_left : {A : Type 0} (xs : List A) → drop (length xs) xs ≡ []
+none_left xs = nil_from_length (drop (length xs) xs) (omega (arith, length-drop (length xs) xs))
 
 pub filled : (bytes : List ℕ) (a b c d : ℕ) → 4 ≤ length bytes → set (set (set (set bytes 0 a) 1 b) 2 c) 3 d ≡ a ∷ b ∷ c ∷ d ∷ drop 4 bytes
 filled [] a b c d le = absurd (omega (arith, le))

@@ -1,8 +1,8 @@
 //! Reading from left to right.
 
-ghost use Rattle.std.specs.Prelude.{◌≡◌, ◌≤◌, ◌==◌, length, drop, take, Ok, OnErr, IfErr, IfOk, option_map, string_bytes};
+ghost use Rattle.std.specs.Prelude.{◌≡◌, ◌≤◌, ◌<◌, ◌^◌, ◌==◌, length, drop, take, Ok, OnErr, IfErr, IfOk, option_map, string_bytes};
 ghost use Rattle.std.specs.Int.{w32, w64};
-ghost use Rattle.kp_jute.specs.Form.{Gives, Answers, IsOfBytes, Place, ended};
+ghost use Rattle.kp_jute.specs.Form.{Gives, Answers, IsOfBytes, Place, ended, remains};
 ghost use Rattle.kp_jute.specs.Jute.{number_of, raw_at, raws, unsigned_of, unsigned_ints, unsigned_longs, packet_at, present_length, ints, longs, booleans, counts, buffers, texts, count_of, bytes_in, valid_text};
 
 use crate::fault::JuteFail;
@@ -49,9 +49,10 @@ impl<'a> Reader<'a> {
         self.place == self.bytes.len()
     }
 
-    /// How many bytes are left.
+    /// How many bytes are left: fewer than 2^63, as of any slice.
     pub fn remaining(&self) -> usize
-        ensures { result ≡ length self.now.rest }
+        ensures all { result ≡ length self.now.rest }
+        ensures bound { result < 2 ^ 63 }
     {
         self.bytes.len() - self.place
     }
@@ -62,6 +63,16 @@ impl<'a> Reader<'a> {
     {
         let bytes = self.bytes;
         &bytes[self.place..]
+    }
+
+    /// Reads all bytes that are left and lends them.
+    #[tactic(auto, using(crate::proofs::Packets::none_left))]
+    pub fn take_rest(&mut self) -> &'a [u8]
+        ensures { Ok (result.now, self.new) ≡ remains.read self.old }
+    {
+        let rest = self.rest();
+        self.place = self.bytes.len();
+        rest
     }
 
     /// Looks whether all bytes were read; the first that is left is refused.

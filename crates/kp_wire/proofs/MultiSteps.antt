@@ -7,11 +7,13 @@ use Rattle.kp_jute.proofs.Loops.{failed}
 use Rattle.kp_wire.specs.declared.reply.WireReply.{WireReply}
 use Rattle.kp_wire.specs.declared.reply.WireReply.TheVariants as reply
 use Rattle.kp_wire.specs.declared.reply.Shape.TheVariants as shapes
-use Rattle.kp_wire.specs.declared.result.OpKind.{OpKind}
+use Rattle.kp_wire.specs.declared.op_kind.OpKind.{OpKind}
 use Rattle.kp_wire.specs.declared.result.OpResult.{OpResult}
 use Rattle.kp_wire.specs.declared.result.Mark.{Mark}
 use Rattle.kp_wire.specs.declared.result.Mark.TheVariants as marks
-use Rattle.kp_wire.specs.OpResults.{Answered, OpHeld, op_number, op_result, op_results, op_rests, codes, ends, all_marks, MarkHeld, multi_of, MultiReply, result_steps, failure_steps, behind_all, failure_lists, result_lists}
+use Rattle.kp_wire.specs.Common.{behind_all}
+use Rattle.kp_wire.specs.OpKinds.{op_number}
+use Rattle.kp_wire.specs.OpResults.{Answered, OpHeld, op_result, op_results, op_rests, codes, ends, all_marks, MarkHeld, multi_of, MultiReply, result_steps, failure_steps, failure_lists, result_lists}
 use Rattle.kp_wire.specs.Replies.{Outcome, granted_as, OutcomeHeld, reply_of, multi_replies}
 use Rattle.kp_wire.proofs.ResultSteps.{op_results_is}
 

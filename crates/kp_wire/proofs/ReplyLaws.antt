@@ -15,7 +15,7 @@ use Rattle.kp_wire.specs.OpResults.{held, failed}
 use Rattle.kp_wire.specs.Replies.{granted, acl_lists, name_lists, bodies, Outcome, refused, granted_as, outcome_of, code_in, outcomes, OutcomeHeld, outcome_bodies, reply_of, outcome_in, replies}
 use Rattle.kp_wire.proofs.PartLaws.{nothing_lawful, same_int, some_is}
 use Rattle.kp_wire.proofs.ResultLaws.{multis_lawful}
-use Rattle.kp_wire.proofs.StatLaws.{stats_lawful}
+use Rattle.kp_wire.proofs.CommonLaws.{stats_lawful}
 
 paths_lawful : Lawful (present texts)
 paths_lawful = present_lawful texts texts_lawful

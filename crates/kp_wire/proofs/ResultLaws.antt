@@ -9,28 +9,23 @@ use Rattle.kp_jute.proofs.Numbers.{ints_lawful, booleans_lawful}
 use Rattle.kp_jute.proofs.Lengths.{texts_lawful}
 use Rattle.kp_wire.specs.declared.result.OpResult.{OpResult}
 use Rattle.kp_wire.specs.declared.result.OpResult.TheVariants as result
-use Rattle.kp_wire.specs.declared.result.OpKind.{OpKind}
-use Rattle.kp_wire.specs.declared.result.OpKind.TheVariants as kinds
+use Rattle.kp_wire.specs.declared.op_kind.OpKind.{OpKind}
+use Rattle.kp_wire.specs.declared.op_kind.OpKind.TheVariants as kinds
 use Rattle.kp_wire.specs.declared.result.Mark.{Mark}
 use Rattle.kp_wire.specs.declared.result.Mark.TheVariants as marks
 use Rattle.kp_wire.specs.declared.result.Lead.{Lead}
 use Rattle.kp_wire.specs.declared.result.Lead.TheVariants as leads
-use Rattle.kp_wire.specs.OpResults.{MultiReply, held, failed, op_number, op_named, OpHeld, op_bodies, Answered, op_result, op_held, lead_number, lead_named, LeadHeld, lead_forms, lead_bodies, mark_of, lead_in, all_marks, result_mark, mark_of_result, result_marks, failure_mark, mark_of_failure, failure_marks, op_rests, codes, ends, ResultHeld, result_rests, result_of, result_as, result_in, result_steps, FailureHeld, failure_rests, failure_of, failure_in, failure_steps, MarkHeld, mark_rests, multi_of, begun_as, multi_in, multis}
+use Rattle.kp_wire.specs.OpKinds.{op_number, op_named}
+use Rattle.kp_wire.specs.OpResults.{MultiReply, held, failed, OpHeld, op_bodies, Answered, op_result, op_held, lead_number, lead_named, LeadHeld, lead_forms, lead_bodies, mark_of, lead_in, all_marks, result_mark, mark_of_result, result_marks, failure_mark, mark_of_failure, failure_marks, op_rests, codes, ends, ResultHeld, result_rests, result_of, result_as, result_in, result_steps, FailureHeld, failure_rests, failure_of, failure_in, failure_steps, MarkHeld, mark_rests, multi_of, begun_as, multi_in, multis}
 use Rattle.kp_wire.specs.Partly.{fits_if}
+use Rattle.kp_wire.proofs.KindLaws.{op_back}
 use Rattle.kp_wire.proofs.PartLaws.{next_name, partly_lawful, nothing_lawful, some_is}
-use Rattle.kp_wire.proofs.StatLaws.{stats_lawful}
+use Rattle.kp_wire.proofs.CommonLaws.{stats_lawful}
 
 -- ---- numbers and types
 
-op_back : (z : ℤ) (k : OpKind) → op_named z ≡ Some k → op_number k ≡ z
-op_back z k e =
-    next_name op_number z (pos 1) kinds.Create k _ refl e (λ e.
-    next_name op_number z (pos 2) kinds.Delete k _ refl e (λ e.
-    next_name op_number z (pos 5) kinds.SetData k _ refl e (λ e.
-    next_name op_number z (pos 13) kinds.Check k _ refl e (λ e.
-    next_name op_number z (pos 15) kinds.Create2 k None refl e (λ e. absurd cc)))))
-
-op_own : (k : OpKind) → op_named (op_number k) ≡ Some k
+pub op_own : (k : OpKind) → op_named (op_number k) ≡ Some k
+unfolding op_named
 op_own kinds.Create = refl
 op_own kinds.Delete = refl
 op_own kinds.SetData = refl

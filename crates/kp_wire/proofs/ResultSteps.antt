@@ -5,13 +5,14 @@ use Rattle.kp_jute.specs.Form.{Place, Reading, ◌>>=◌, Form, Fails, tagged}
 use Rattle.kp_jute.specs.Jute.{booleans}
 use Rattle.kp_jute.proofs.Loops.{failed}
 use Rattle.kp_wire.specs.declared.result.OpResult.{OpResult}
-use Rattle.kp_wire.specs.declared.result.OpKind.{OpKind}
-use Rattle.kp_wire.specs.declared.result.OpKind.TheVariants as kinds
+use Rattle.kp_wire.specs.declared.op_kind.OpKind.{OpKind}
+use Rattle.kp_wire.specs.declared.op_kind.OpKind.TheVariants as kinds
 use Rattle.kp_wire.specs.declared.result.Mark.{Mark}
 use Rattle.kp_wire.specs.declared.result.Mark.TheVariants as marks
 use Rattle.kp_wire.specs.declared.result.Lead.{Lead}
 use Rattle.kp_wire.specs.declared.result.Lead.TheVariants as leads
-use Rattle.kp_wire.specs.OpResults.{Answered, OpHeld, op_number, op_result, op_read, op_results, op_rests, lead_forms, LeadHeld, mark_of, closed, all_marks, result_marks, ResultHeld, result_rests, result_of, result_steps}
+use Rattle.kp_wire.specs.OpKinds.{op_number}
+use Rattle.kp_wire.specs.OpResults.{Answered, OpHeld, op_result, op_read, op_results, op_rests, lead_forms, LeadHeld, mark_of, closed, all_marks, result_marks, ResultHeld, result_rests, result_of, result_steps}
 
 -- ---- marks
 

@@ -7,26 +7,17 @@ use Rattle.kp_jute.specs.Jute.{ints, booleans, texts, untils, fixed_ints, fixed_
 use Rattle.kp_wire.specs.declared.stat.Stat.{Stat}
 use Rattle.kp_wire.specs.declared.result.OpResult.{OpResult}
 use Rattle.kp_wire.specs.declared.result.OpResult.TheVariants as result
-use Rattle.kp_wire.specs.declared.result.OpKind.{OpKind}
-use Rattle.kp_wire.specs.declared.result.OpKind.TheVariants as kinds
+use Rattle.kp_wire.specs.declared.op_kind.OpKind.{OpKind}
+use Rattle.kp_wire.specs.declared.op_kind.OpKind.TheVariants as kinds
 use Rattle.kp_wire.specs.declared.result.Mark.{Mark}
 use Rattle.kp_wire.specs.declared.result.Mark.TheVariants as marks
 use Rattle.kp_wire.specs.declared.result.Lead.{Lead}
 use Rattle.kp_wire.specs.declared.result.Lead.TheVariants as leads
 use Rattle.kp_wire.specs.Partly.{partly, nothing}
-use Rattle.kp_wire.specs.Common.{stats}
+use Rattle.kp_wire.specs.Common.{stats, behind_all}
+use Rattle.kp_wire.specs.OpKinds.{op_number, op_named}
 
--- ---- the operations that a multi may hold
-
-abbrev pub op_number : OpKind → ℤ
-op_number kinds.Create = pos 1
-op_number kinds.Delete = pos 2
-op_number kinds.SetData = pos 5
-op_number kinds.Check = pos 13
-op_number kinds.Create2 = pos 15
-
-abbrev pub op_named : ℤ → Option OpKind
-op_named z = if int_eq z (pos 1) then Some kinds.Create else if int_eq z (pos 2) then Some kinds.Delete else if int_eq z (pos 5) then Some kinds.SetData else if int_eq z (pos 13) then Some kinds.Check else if int_eq z (pos 15) then Some kinds.Create2 else None
+-- ---- what an operation of a multi is answered
 
 -- what the reply of an operation holds
 abbrev pub OpHeld : OpKind → Type 0
@@ -66,6 +57,14 @@ op_held kinds.Check result.Empty = Some tt
 op_held kinds.Check r = None
 op_held kinds.Create2 (result.PathStat path stat) = Some (path, stat)
 op_held kinds.Create2 r = None
+
+-- an operation's reply, by cases
+abbrev pub op_replies : OpKind → Form OpResult
+op_replies kinds.Create = partly (op_result kinds.Create) (op_held kinds.Create) (op_bodies kinds.Create)
+op_replies kinds.Delete = partly (op_result kinds.Delete) (op_held kinds.Delete) (op_bodies kinds.Delete)
+op_replies kinds.SetData = partly (op_result kinds.SetData) (op_held kinds.SetData) (op_bodies kinds.SetData)
+op_replies kinds.Check = partly (op_result kinds.Check) (op_held kinds.Check) (op_bodies kinds.Check)
+op_replies kinds.Create2 = partly (op_result kinds.Create2) (op_held kinds.Create2) (op_bodies kinds.Create2)
 
 -- ---- marks: an int type and a boolean
 
@@ -236,10 +235,6 @@ abbrev pub multis : Form MultiReply
 multis = partly multi_of multi_in (tagged all_marks mark_rests)
 
 -- ---- as a list is read
-
--- values that were read before, and those that are read
-abbrev pub behind_all : {A : Type 0} → List A → Result (List A × Place) JuteFail → Result (List A × Place) JuteFail
-behind_all before read = read >>= λ x. Ok (before ++ x.0, x.1)
 
 abbrev pub failure_lists : Reading (List ℤ)
 failure_lists p = codes.read p >>= λ z. behind_all (z.0 ∷ []) ((untils failure_steps).read z.1)

@@ -2,7 +2,7 @@
 use Rattle.std.specs.Prelude.{◌≡◌, ℕ, ℤ, pos, List, Option, Some, None, Result, Ok, if◌then◌else◌}
 use Rattle.std.specs.Ordering.{int_eq}
 use Rattle.kp_jute.specs.declared.fault.JuteFail.{JuteFail}
-use Rattle.kp_jute.specs.Form.{Place, Reading, ◌>>=◌, Form, ◌⊗◌, seen, narrowed, present, tagged}
+use Rattle.kp_jute.specs.Form.{Place, Reading, ◌>>=◌, Form, Wrote, ◌⊗◌, seen, narrowed, present, tagged}
 use Rattle.kp_jute.specs.Jute.{ints, texts, buffers, vectors, unsigned_ints}
 use Rattle.kp_model.specs.declared.node.Acl.{Acl}
 use Rattle.kp_wire.specs.declared.stat.Stat.{Stat}
@@ -142,3 +142,22 @@ shape_in (reply.Names names) = shapes.Names
 shape_in (reply.NamesStat names stat) = shapes.NamesStat
 shape_in (reply.Multi xs) = shapes.Multi
 shape_in (reply.Failed zs) = shapes.Multi
+
+-- the reply may be one to a request whose replies have the shape
+abbrev pub HasShape : Shape → WireReply → Type 0
+HasShape s (reply.Err z) = Unit {0}
+HasShape s r = shape_in r ≡ s
+
+-- what a reply holds was written
+abbrev pub WroteBody : WireReply → List ℕ → List ℕ → Type 0
+WroteBody (reply.Err z) old new = ⊥
+WroteBody reply.Empty old new = Wrote nothing tt old new
+WroteBody (reply.Path path) old new = Wrote (present texts) path old new
+WroteBody (reply.PathStat path stat) old new = Wrote (present texts ⊗ stats) (path, stat) old new
+WroteBody (reply.Stat stat) old new = Wrote stats stat old new
+WroteBody (reply.Data bytes stat) old new = Wrote (present buffers ⊗ stats) (bytes, stat) old new
+WroteBody (reply.Acl acl stat) old new = Wrote (acl_lists ⊗ stats) (acl, stat) old new
+WroteBody (reply.Names names) old new = Wrote name_lists names old new
+WroteBody (reply.NamesStat names stat) old new = Wrote (name_lists ⊗ stats) (names, stat) old new
+WroteBody (reply.Multi xs) old new = Wrote multis (held xs) old new
+WroteBody (reply.Failed zs) old new = Wrote multis (failed zs) old new

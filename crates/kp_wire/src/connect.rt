@@ -1,16 +1,17 @@
 //! What a connection begins with: the connect request and the connect reply.
 
 ghost use Rattle.std.specs.Prelude.{◌≡◌, ◌<◌, ◌^◌, Ok, IfOk, OnOk};
-ghost use Rattle.kp_jute.specs.Form.{Gives, Answers, Wrote, if_any, whole};
+ghost use Rattle.kp_jute.specs.Form.{◌⊗◌, Gives, Answers, Wrote, Lawful, if_any, whole};
 ghost use Rattle.kp_jute.specs.Jute.{booleans, fixed_booleans};
-ghost use Rattle.kp_wire.specs.Common.{Tells, refused_as};
-ghost use Rattle.kp_wire.specs.Connects.{connects, connect_packets, connect_answers, connect_answer_packets, passwords, flags};
+ghost use Rattle.kp_wire.specs.Common.{Tells, Sends, refused_as};
+ghost use Rattle.kp_wire.specs.Connects.{session_asks, secrets, connects, connect_packets, connect_answers, connect_answer_packets, passwords, flags};
 
 use crate::fail::{WireFail, told};
-use crate::field::{read_constant, read_flag};
+use crate::field::packet_of;
+use crate::multi::{fixed_boolean, fixed_int};
 use crate::value::{read_bytes, write_bytes};
-use kp_jute::{JuteFail, NoMemory, Reader, Writer};
-use kp_model::Bytes;
+use kp_jute::{JuteFail, NoMemory as Unwritten, Reader, Writer};
+use kp_model::{Bytes, NoMemory};
 use std::alloc::Global;
 
 /// The first packet of a client, with the fields as they are sent.
@@ -72,6 +73,34 @@ pub fn read_connect_reply(alloc: Global, frame: &[u8]) -> Result<ConnectReply, W
     told(whole_reply(alloc, frame))
 }
 
+/// Writes the packet of a connect request: its length and its record. Answers `NoMemory` also where the request
+/// has none, since it doesn't fit its length.
+pub fn write_connect_request(alloc: Global, request: &ConnectRequest) -> Result<Bytes, NoMemory>
+    ensures { IfOk result (λ b. Sends connects request.now b) }
+{
+    match request_packet(alloc, request) {
+        Ok(bytes) => Ok(bytes),
+        Err(_) => Err(NoMemory),
+    }
+}
+
+/// Writes the packet of a connect reply: its length and its record. Answers `NoMemory` only where memory runs out.
+pub fn write_connect(alloc: Global, reply: &ConnectReply) -> Result<Bytes, NoMemory>
+    ensures { IfOk result (λ b. Sends connect_answers reply.now b) }
+{
+    match reply_packet(alloc, reply) {
+        Ok(bytes) => Ok(bytes),
+        Err(_) => Err(NoMemory),
+    }
+}
+
+/// The packets with which a connection begins are read exactly where the bytes begin with their spelling, and each
+/// value has one spelling.
+pub fn connect_laws()
+    ensures request { Lawful connect_packets }
+    ensures reply { Lawful connect_answer_packets }
+{}
+
 fn whole_request(alloc: Global, frame: &[u8]) -> Result<ConnectRequest, JuteFail>
     ensures { Answers (λ x. x) result (whole connect_packets frame.now) }
 {
@@ -127,7 +156,7 @@ fn optional_boolean(reader: &mut Reader<'_>) -> Result<Option<bool>, JuteFail>
 fn reply_of(alloc: Global, reader: &mut Reader<'_>) -> Result<ConnectReply, JuteFail>
     ensures { Gives (λ x. x) result reader.new (connect_answers.read reader.old) }
 {
-    read_constant(reader, 0)?;
+    fixed_int(reader, 0)?;
     let timeout = reader.unsigned_int()?;
     let session = reader.unsigned_long()?;
     let passwd = password(alloc, reader)?;
@@ -161,6 +190,94 @@ fn optional_zero(reader: &mut Reader<'_>) -> Result<bool, JuteFail>
     if reader.is_at_end() {
         return Ok(false);
     }
-    read_flag(reader, false)?;
+    fixed_boolean(reader, false)?;
     Ok(true)
+}
+
+fn request_packet(alloc: Global, request: &ConnectRequest) -> Result<Bytes, Unwritten>
+    ensures { IfOk result (λ b. Sends connects request.now b) }
+{
+    let mut writer = Writer::for_packet(alloc)?;
+    write_request(&mut writer, request)?;
+    packet_of(writer)
+}
+
+fn reply_packet(alloc: Global, reply: &ConnectReply) -> Result<Bytes, Unwritten>
+    ensures { IfOk result (λ b. Sends connect_answers reply.now b) }
+{
+    let mut writer = Writer::for_packet(alloc)?;
+    write_reply(&mut writer, reply)?;
+    packet_of(writer)
+}
+
+fn write_request(writer: &mut Writer, request: &ConnectRequest) -> Result<(), Unwritten>
+    ensures { OnOk result (Wrote connects request.now writer.old writer.new) }
+{
+    write_session(writer, request)?;
+    write_secret(writer, request)?;
+    Ok(())
+}
+
+// Writes the fields up to the session.
+fn write_session(writer: &mut Writer, request: &ConnectRequest) -> Result<(), Unwritten>
+    ensures { OnOk result (Wrote session_asks (request.now.protocol, (request.now.zxid, (request.now.timeout, request.now.session))) writer.old writer.new) }
+{
+    writer.int(request.protocol)?;
+    writer.long(request.zxid)?;
+    writer.int(request.timeout)?;
+    writer.long(request.session)?;
+    Ok(())
+}
+
+// Writes the password, and the boolean where there is one.
+fn write_secret(writer: &mut Writer, request: &ConnectRequest) -> Result<(), Unwritten>
+    ensures { OnOk result (Wrote secrets (request.now.passwd, request.now.read_only) writer.old writer.new) }
+{
+    write_bytes(writer, &request.passwd)?;
+    write_optional(writer, request.read_only)?;
+    Ok(())
+}
+
+fn write_optional(writer: &mut Writer, value: Option<bool>) -> Result<(), Unwritten>
+    ensures { OnOk result (Wrote (if_any booleans) value writer.old writer.new) }
+{
+    match value {
+        None => Ok(()),
+        Some(value) => writer.boolean(value),
+    }
+}
+
+fn write_reply(writer: &mut Writer, reply: &ConnectReply) -> Result<(), Unwritten>
+    ensures { OnOk result (Wrote connect_answers reply.now writer.old writer.new) }
+{
+    writer.int(0)?;
+    writer.unsigned_int(reply.timeout)?;
+    writer.unsigned_long(reply.session)?;
+    write_ending(writer, reply)?;
+    Ok(())
+}
+
+// Writes the password, and the boolean 0 where the request had `readOnly`.
+fn write_ending(writer: &mut Writer, reply: &ConnectReply) -> Result<(), Unwritten>
+    ensures { OnOk result (Wrote (passwords ⊗ flags) (reply.now.passwd, reply.now.with_read_only) writer.old writer.new) }
+{
+    write_password(writer, &reply.passwd)?;
+    write_flag(writer, reply.with_read_only)?;
+    Ok(())
+}
+
+fn write_password(writer: &mut Writer, passwd: &[u8; 16]) -> Result<(), Unwritten>
+    ensures { OnOk result (Wrote passwords passwd.now writer.old writer.new) }
+{
+    writer.buffer(Some(passwd.as_slice()))
+}
+
+fn write_flag(writer: &mut Writer, is_there: bool) -> Result<(), Unwritten>
+    ensures { OnOk result (Wrote flags is_there writer.old writer.new) }
+{
+    if is_there {
+        writer.boolean(false)
+    } else {
+        Ok(())
+    }
 }

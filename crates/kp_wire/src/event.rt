@@ -4,7 +4,8 @@ ghost use Rattle.std.specs.Prelude.{◌≡◌, OnOk};
 ghost use Rattle.kp_jute.specs.Form.{Gives, Wrote};
 ghost use Rattle.kp_wire.specs.Events.{events, event_kinds, kind_of, kind_number, event_at, kind_in, path_in};
 
-use crate::field::{read_constant, read_some_text, write_some_text};
+use crate::field::{read_some_text, write_some_text};
+use crate::multi::fixed_int;
 use kp_jute::{JuteFail, NoMemory, Reader, Writer};
 use kp_model::{Event, Text};
 use std::alloc::Global;
@@ -59,7 +60,7 @@ pub fn read_event(alloc: Global, reader: &mut Reader<'_>) -> Result<Event, JuteF
     ensures { Gives (λ x. x) result reader.new (events.read reader.old) }
 {
     let kind = read_kind(reader)?;
-    read_constant(reader, STATE)?;
+    fixed_int(reader, STATE)?;
     let path = read_some_text(alloc, reader)?;
     Ok(event_from(kind, path))
 }

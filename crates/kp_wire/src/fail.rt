@@ -1,7 +1,7 @@
 //! Why a frame could not be read.
 
 ghost use Rattle.std.specs.Prelude.{◌≡◌};
-ghost use Rattle.kp_wire.specs.Common.{wire_fail, refused_as};
+ghost use Rattle.kp_wire.specs.Common.{refused_as};
 
 use kp_jute::JuteFail;
 
@@ -31,11 +31,11 @@ impl From<JuteFail> for WireFail {
     }
 }
 
-// The same answer, where a refusal is one of the frame.
-pub fn told<T: Drop>(read: Result<T, JuteFail>) -> Result<T, WireFail>
-    ensures { result ≡ refused_as read }
+// The same answer, with a refusal as one of the frame.
+pub fn told<T>(answer: Result<T, JuteFail>) -> Result<T, WireFail>
+    ensures { result ≡ refused_as answer }
 {
-    match read {
+    match answer {
         Ok(value) => Ok(value),
         Err(fail) => Err(WireFail::from(fail)),
     }

@@ -1,8 +1,8 @@
-//! Fields that stand in many records of the server: constants, and texts, buffers and vectors that may not be null.
+//! Texts, buffers and vectors that may not be null: null is refused where it begins.
 
-ghost use Rattle.std.specs.Prelude.{◌≡◌, Some, OnOk};
+ghost use Rattle.std.specs.Prelude.{◌≡◌, ◌++◌, ◌<◌, ◌^◌, ℕ, List, length, Some, IfOk, OnOk};
 ghost use Rattle.kp_jute.specs.Form.{Gives, Wrote, present};
-ghost use Rattle.kp_jute.specs.Jute.{texts, buffers, vectors, fixed_ints, fixed_booleans};
+ghost use Rattle.kp_jute.specs.Jute.{texts, buffers, vectors, gap, buffer};
 
 use crate::list::{Element, read_vector, write_list};
 use kp_jute::{JuteFail, NoMemory, Reader, Writer};
@@ -41,30 +41,6 @@ impl Element for Acl {
         write_some_text(writer, &self.scheme)?;
         write_some_text(writer, &self.id)?;
         Ok(())
-    }
-}
-
-// Reads an int that has only one value; any other is refused.
-pub fn read_constant(reader: &mut Reader<'_>, value: i32) -> Result<(), JuteFail>
-    ensures { Gives (λ x. x) result reader.new ((fixed_ints value).read reader.old) }
-{
-    let at = reader.place();
-    if reader.int()? == value {
-        Ok(())
-    } else {
-        Err(JuteFail::BadByte { at })
-    }
-}
-
-// Reads a boolean that has only one value; the other is refused.
-pub fn read_flag(reader: &mut Reader<'_>, value: bool) -> Result<(), JuteFail>
-    ensures { Gives (λ x. x) result reader.new ((fixed_booleans value).read reader.old) }
-{
-    let at = reader.place();
-    if reader.boolean()? == value {
-        Ok(())
-    } else {
-        Err(JuteFail::BadByte { at })
     }
 }
 
@@ -123,4 +99,11 @@ pub fn write_some_list<T: Element>(writer: &mut Writer, list: &Items<T>) -> Resu
     ensures { OnOk result (Wrote (present (vectors T.form)) list.now writer.old writer.new) }
 {
     write_list(writer, list)
+}
+
+// The packet of the record that was written, with its length.
+pub fn packet_of(writer: Writer) -> Result<Bytes, NoMemory>
+    ensures { (body : List ℕ) → writer ≡ gap ++ body → IfOk result (λ b. (length body < 2 ^ 31) × (b ≡ buffer (Some body))) }
+{
+    Ok(Bytes::from_vec(writer.finish_packet()?))
 }

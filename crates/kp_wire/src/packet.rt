@@ -1,17 +1,19 @@
 //! What the server sends on a live connection: a packet of a header with an xid, a zxid and a code, and a body.
 
-ghost use Rattle.std.specs.Prelude.{◌≡◌, Ok, IfOk};
-ghost use Rattle.kp_jute.specs.Form.{Gives, Answers, whole};
-ghost use Rattle.kp_wire.specs.Common.{Tells, refused_as};
-ghost use Rattle.kp_wire.specs.Replies.{shape_of};
+ghost use Rattle.std.specs.Prelude.{◌≡◌, Ok, IfOk, OnOk};
+ghost use Rattle.std.specs.Int.{w64, cast_signed};
+ghost use Rattle.kp_jute.specs.Form.{Gives, Answers, Wrote, Lawful, whole};
+ghost use Rattle.kp_wire.specs.Common.{Tells, Sends, refused_as};
+ghost use Rattle.kp_wire.specs.Replies.{shape_of, HasShape};
 ghost use Rattle.kp_wire.specs.ServerPackets.{server_packets, headers, answers, event_answers, reply_answers, is_event};
 
-use crate::event::read_event;
+use crate::event::{read_event, write_event_body};
 use crate::fail::{WireFail, told};
-use crate::field::read_constant;
-use crate::reply::{Shape, WireReply, read_reply, shape_from};
-use kp_jute::{JuteFail, Reader};
-use kp_model::Event;
+use crate::field::packet_of;
+use crate::multi::fixed_int;
+use crate::reply::{Shape, WireReply, read_reply, shape_from, write_answer};
+use kp_jute::{JuteFail, NoMemory as Unwritten, Reader, Writer};
+use kp_model::{Bytes, Event, NoMemory};
 use std::alloc::Global;
 
 /// What the server sends on a live connection.
@@ -44,7 +46,40 @@ pub fn read_packet(alloc: Global, kind: i32, frame: &[u8]) -> Result<Packet, Wir
     read_shaped(alloc, shape_from(kind), frame)
 }
 
-// The same, where the replies have the shape.
+/// Writes the packet of a reply. `zxid` is the index of the last entry that it shows, and stands for a long in
+/// two's complement.
+///
+/// Answers `NoMemory` also where the reply has no packet: an `Err` of 0, a `Failed` of none, a result that isn't
+/// one of its operation's type, an xid and a zxid that are both -1, or what doesn't fit its length.
+pub fn write_reply(alloc: Global, xid: i32, zxid: u64, reply: &WireReply) -> Result<Bytes, NoMemory>
+    // The bytes are its packet, whatever the type of the request is that has such replies.
+    ensures { IfOk result (λ b. (s : Shape) → HasShape s reply.now → Sends (answers s) (Packet.Reply xid (cast_signed w64 zxid) reply.now) b) }
+{
+    match reply_packet(alloc, numbered(xid, zxid), reply) {
+        Ok(bytes) => Ok(bytes),
+        Err(_) => Err(NoMemory),
+    }
+}
+
+/// Writes the packet of an event. Answers `NoMemory` also where the event's path or the packet doesn't fit its
+/// length.
+pub fn write_event(alloc: Global, event: &Event) -> Result<Bytes, NoMemory>
+    // The bytes are its packet, whatever request is awaited.
+    ensures { IfOk result (λ b. (s : Shape) → Sends (answers s) (Packet.Event event.now) b) }
+{
+    match event_packet(alloc, event) {
+        Ok(bytes) => Ok(bytes),
+        Err(_) => Err(NoMemory),
+    }
+}
+
+/// A packet is read exactly where the bytes begin with its spelling, and has one spelling, whatever the shape of the
+/// replies.
+pub fn packet_laws()
+    ensures { (s : Shape) → Lawful (server_packets s) }
+{}
+
+// Reads a packet where the replies have the shape.
 fn read_shaped(alloc: Global, shape: Shape, frame: &[u8]) -> Result<Packet, WireFail>
     ensures found { IfOk result (λ v. (server_packets shape).Fits v × (frame.now ≡ (server_packets shape).spell v)) }
     ensures only { (v : Packet) → (server_packets shape).Fits v → frame.now ≡ (server_packets shape).spell v → Tells result (Ok v) }
@@ -100,7 +135,7 @@ fn read_answer(alloc: Global, reader: &mut Reader<'_>, shape: Shape) -> Result<P
 fn read_fired(alloc: Global, reader: &mut Reader<'_>) -> Result<Packet, JuteFail>
     ensures { Gives (λ x. x) result reader.new (event_answers reader.old) }
 {
-    read_constant(reader, 0)?;
+    fixed_int(reader, 0)?;
     let event = read_event(alloc, reader)?;
     Ok(Packet::Event(event))
 }
@@ -120,4 +155,61 @@ fn read_asked(
         zxid: header.zxid,
         reply,
     })
+}
+
+fn numbered(xid: i32, zxid: u64) -> Header
+    ensures { result ≡ record { xid = xid; zxid = cast_signed w64 zxid } }
+{
+    Header {
+        xid,
+        zxid: zxid.cast_signed(),
+    }
+}
+
+fn reply_packet(alloc: Global, header: Header, reply: &WireReply) -> Result<Bytes, Unwritten>
+    ensures { IfOk result (λ b. (s : Shape) → HasShape s reply.now → Sends (answers s) (Packet.Reply header.xid header.zxid reply.now) b) }
+{
+    let mut writer = Writer::for_packet(alloc)?;
+    write_asked(&mut writer, header, reply)?;
+    packet_of(writer)
+}
+
+fn event_packet(alloc: Global, event: &Event) -> Result<Bytes, Unwritten>
+    ensures { IfOk result (λ b. (s : Shape) → Sends (answers s) (Packet.Event event.now) b) }
+{
+    let mut writer = Writer::for_packet(alloc)?;
+    write_fired(&mut writer, event)?;
+    packet_of(writer)
+}
+
+// Writes the record of a reply.
+fn write_asked(writer: &mut Writer, header: Header, reply: &WireReply) -> Result<(), Unwritten>
+    ensures { OnOk result ((s : Shape) → HasShape s reply.now → Wrote (answers s) (Packet.Reply header.xid header.zxid reply.now) writer.old writer.new) }
+{
+    if fires(header) {
+        return Err(Unwritten);
+    }
+    write_header(writer, header)?;
+    write_answer(writer, reply)?;
+    Ok(())
+}
+
+fn write_header(writer: &mut Writer, header: Header) -> Result<(), Unwritten>
+    ensures { OnOk result (Wrote headers (header.xid, header.zxid) writer.old writer.new) }
+{
+    writer.int(header.xid)?;
+    writer.long(header.zxid)?;
+    Ok(())
+}
+
+// Writes the record of an event.
+#[tactic(auto, using(crate::proofs::PacketWrites::wrote_fired))]
+fn write_fired(writer: &mut Writer, event: &Event) -> Result<(), Unwritten>
+    ensures { OnOk result ((s : Shape) → Wrote (answers s) (Packet.Event event.now) writer.old writer.new) }
+{
+    writer.int(-1)?;
+    writer.long(-1)?;
+    writer.int(0)?;
+    write_event_body(writer, event)?;
+    Ok(())
 }

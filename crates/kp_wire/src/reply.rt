@@ -2,11 +2,14 @@
 
 ghost use Rattle.std.specs.Prelude.{◌≡◌, OnOk};
 ghost use Rattle.kp_jute.specs.Form.{Gives, Wrote};
-ghost use Rattle.kp_wire.specs.Replies.{shape_of, shape_replies, replies, shape_in};
+ghost use Rattle.kp_wire.specs.Replies.{shape_of, shape_replies, replies, shape_in, WroteBody};
 
-use crate::field::{read_some_bytes, read_some_list, read_some_text};
-use crate::result::{OpResult, read_multi};
-use crate::stat::{Stat, read_stat};
+use crate::field::{
+    read_some_bytes, read_some_list, read_some_text, write_some_bytes, write_some_list,
+    write_some_text,
+};
+use crate::result::{OpResult, read_multi, write_failures, write_results};
+use crate::stat::{Stat, read_stat, write_stat};
 use kp_jute::{JuteFail, NoMemory, Reader, Writer};
 use kp_model::{Acls, Bytes, Items, Paths, Text};
 use std::alloc::Global;
@@ -124,5 +127,62 @@ fn read_body(alloc: Global, reader: &mut Reader<'_>, shape: Shape) -> Result<Wir
             Ok(WireReply::NamesStat(names, stat))
         }
         Shape::Multi => read_multi(alloc, reader),
+    }
+}
+
+// Writes a reply: its code, and behind the code 0 its body. The code 0 is no error's.
+pub fn write_answer(writer: &mut Writer, reply: &WireReply) -> Result<(), NoMemory>
+    ensures { OnOk result (Wrote (replies (shape_in reply.now)) reply.now writer.old writer.new) }
+{
+    if let WireReply::Err(code) = reply {
+        return write_error(writer, code);
+    }
+    writer.int(0)?;
+    write_body(writer, reply)?;
+    Ok(())
+}
+
+#[tactic(auto, using(crate::proofs::ReplyWrites::wrote_refused))]
+fn write_error(writer: &mut Writer, code: &i32) -> Result<(), NoMemory>
+    ensures { OnOk result (Wrote (replies (shape_in (WireReply.Err code.now))) (WireReply.Err code.now) writer.old writer.new) }
+{
+    if *code == 0 {
+        return Err(NoMemory);
+    }
+    writer.int(*code)
+}
+
+// Writes what stands behind the code 0.
+fn write_body(writer: &mut Writer, reply: &WireReply) -> Result<(), NoMemory>
+    ensures { OnOk result (WroteBody reply.now writer.old writer.new) }
+{
+    match reply {
+        WireReply::Err(_) => Err(NoMemory),
+        WireReply::Empty => Ok(()),
+        WireReply::Path(path) => write_some_text(writer, path),
+        WireReply::PathStat(path, stat) => {
+            write_some_text(writer, path)?;
+            write_stat(writer, stat)?;
+            Ok(())
+        }
+        WireReply::Stat(stat) => write_stat(writer, stat),
+        WireReply::Data(bytes, stat) => {
+            write_some_bytes(writer, bytes)?;
+            write_stat(writer, stat)?;
+            Ok(())
+        }
+        WireReply::Acl(acl, stat) => {
+            write_some_list(writer, acl)?;
+            write_stat(writer, stat)?;
+            Ok(())
+        }
+        WireReply::Names(names) => write_some_list(writer, names),
+        WireReply::NamesStat(names, stat) => {
+            write_some_list(writer, names)?;
+            write_stat(writer, stat)?;
+            Ok(())
+        }
+        WireReply::Multi(results) => write_results(writer, results),
+        WireReply::Failed(codes) => write_failures(writer, codes),
     }
 }

@@ -1,18 +1,26 @@
 //! The results of a multi. Each stands behind a mark: a type, the boolean 0 and the int 0. Where the multi failed,
 //! each operation has the mark -1, 0 and its error's code, and the code once more. The end is -1, 1, -1.
 
-ghost use Rattle.std.specs.Prelude.{◌≡◌, ◌∷◌, [], Option, Some, OnOk};
-ghost use Rattle.kp_jute.specs.Form.{Form, Gives, Wrote, WroteAll};
-ghost use Rattle.kp_jute.specs.Jute.{untils, until_at};
-ghost use Rattle.kp_wire.specs.OpResults.{op_named, op_number, op_results, lead_named, lead_forms, closed, all_marks, codes, ends, result_steps, failure_steps, multis, behind_all, failure_lists, result_lists};
+ghost use Rattle.std.specs.Prelude.{◌≡◌, ◌∷◌, [], Some, None, OnOk};
+ghost use Rattle.kp_jute.specs.Form.{Gives, Wrote};
+ghost use Rattle.kp_jute.specs.Jute.{ints, untils};
+ghost use Rattle.kp_wire.specs.Common.{behind_all};
+ghost use Rattle.kp_wire.specs.OpKinds.{op_named, op_number};
+ghost use Rattle.kp_wire.specs.OpResults.{op_results, op_replies, lead_named, lead_forms, closed, all_marks, codes, result_steps, failure_steps, multis, held, failed, failure_lists, result_lists};
 ghost use Rattle.kp_wire.specs.Replies.{multi_replies};
 
-use crate::field::{read_constant, read_flag, read_some_text, write_some_text};
+use crate::field::{read_some_text, write_some_text};
+use crate::marked::{Marked, read_marked_behind, write_marked};
+use crate::multi::{fixed_boolean, fixed_int};
+use crate::op_kind::{OpKind, op_kind_from, op_number};
 use crate::reply::WireReply;
 use crate::stat::{Stat, read_stat, write_stat};
 use kp_jute::{JuteFail, NoMemory, Reader, Writer};
 use kp_model::{Items, Text};
 use std::alloc::Global;
+
+/// The type of the end mark and of a failure, and the error of the end mark.
+const END: i32 = -1;
 
 /// What an operation of a multi is answered.
 #[derive(Debug, Drop)]
@@ -25,16 +33,6 @@ pub enum OpResult {
     PathStat(Text, Stat),
     /// The numbers of a node that was changed.
     Stat(Stat),
-}
-
-/// The types of operation that a multi may hold.
-#[derive(Clone, Copy, Debug)]
-pub enum OpKind {
-    Create,
-    Delete,
-    SetData,
-    Check,
-    Create2,
 }
 
 /// The type of a mark: that of an operation, or -1.
@@ -52,19 +50,10 @@ pub enum Mark {
     Failing,
 }
 
-// What stands one behind the other up to an end mark.
-trait Step: Sized {
-    ghost step: { Form (Option Self) };
-
-    // Reads one, or the end mark.
-    fn read_step(alloc: Global, reader: &mut Reader<'_>) -> Result<Option<Self>, JuteFail>
-        ensures { Gives (λ x. x) result reader.new (step.read reader.old) };
-}
-
-impl Step for (i32, OpResult) {
+impl Marked for (i32, OpResult) {
     ghost use Rattle.kp_wire.specs.OpResults.{result_steps};
 
-    ghost step = { result_steps };
+    ghost form = { result_steps };
 
     fn read_step(
         alloc: Global,
@@ -75,7 +64,7 @@ impl Step for (i32, OpResult) {
         match mark {
             Mark::Failing => Err(JuteFail::BadByte { at }),
             Mark::Last => {
-                read_constant(reader, -1)?;
+                fixed_int(reader, END)?;
                 Ok(None)
             }
             Mark::Listed(kind) => {
@@ -84,12 +73,20 @@ impl Step for (i32, OpResult) {
             }
         }
     }
+
+    fn write_step(&self, writer: &mut Writer) -> Result<(), NoMemory> {
+        write_numbered(writer, self)
+    }
+
+    fn write_end(writer: &mut Writer) -> Result<(), NoMemory> {
+        write_last(writer)
+    }
 }
 
-impl Step for i32 {
+impl Marked for i32 {
     ghost use Rattle.kp_wire.specs.OpResults.{failure_steps};
 
-    ghost step = { failure_steps };
+    ghost form = { failure_steps };
 
     fn read_step(_alloc: Global, reader: &mut Reader<'_>) -> Result<Option<i32>, JuteFail> {
         let at = reader.place();
@@ -97,7 +94,7 @@ impl Step for i32 {
         match mark {
             Mark::Listed(_) => Err(JuteFail::BadByte { at }),
             Mark::Last => {
-                read_constant(reader, -1)?;
+                fixed_int(reader, END)?;
                 Ok(None)
             }
             Mark::Failing => {
@@ -106,47 +103,30 @@ impl Step for i32 {
             }
         }
     }
-}
 
-fn op_from(number: i32) -> Option<OpKind>
-    ensures { result ≡ op_named number }
-{
-    match number {
-        1 => Some(OpKind::Create),
-        2 => Some(OpKind::Delete),
-        5 => Some(OpKind::SetData),
-        13 => Some(OpKind::Check),
-        15 => Some(OpKind::Create2),
-        _ => None,
+    fn write_step(&self, writer: &mut Writer) -> Result<(), NoMemory> {
+        write_code(writer, *self)
     }
-}
 
-fn number_of(kind: OpKind) -> i32
-    ensures { result ≡ op_number kind }
-{
-    match kind {
-        OpKind::Create => 1,
-        OpKind::Delete => 2,
-        OpKind::SetData => 5,
-        OpKind::Check => 13,
-        OpKind::Create2 => 15,
+    fn write_end(writer: &mut Writer) -> Result<(), NoMemory> {
+        write_last(writer)
     }
 }
 
 fn numbered(kind: OpKind, answer: OpResult) -> (i32, OpResult)
     ensures { result ≡ (op_number kind, answer) }
 {
-    (number_of(kind), answer)
+    (op_number(kind), answer)
 }
 
 #[tactic(auto, unfolding(crate::specs::OpResults::lead_named))]
 fn lead_from(number: i32) -> Option<Lead>
     ensures { result ≡ lead_named number }
 {
-    if number == -1 {
+    if number == END {
         return Some(Lead::Closing);
     }
-    match op_from(number) {
+    match op_kind_from(number) {
         None => None,
         Some(kind) => Some(Lead::Listed(kind)),
     }
@@ -188,7 +168,7 @@ fn read_code(reader: &mut Reader<'_>) -> Result<i32, JuteFail>
     ensures { Gives (λ x. x) result reader.new (codes.read reader.old) }
 {
     let code = reader.int()?;
-    read_constant(reader, code)?;
+    fixed_int(reader, code)?;
     Ok(code)
 }
 
@@ -196,8 +176,8 @@ fn read_code(reader: &mut Reader<'_>) -> Result<i32, JuteFail>
 fn read_result(alloc: Global, reader: &mut Reader<'_>, kind: OpKind) -> Result<OpResult, JuteFail>
     ensures { Gives (λ x. x) result reader.new (op_results kind reader.old) }
 {
-    read_flag(reader, false)?;
-    read_constant(reader, 0)?;
+    fixed_boolean(reader, false)?;
+    fixed_int(reader, 0)?;
     match kind {
         OpKind::Delete | OpKind::Check => Ok(OpResult::Empty),
         OpKind::Create => {
@@ -216,38 +196,17 @@ fn read_result(alloc: Global, reader: &mut Reader<'_>, kind: OpKind) -> Result<O
     }
 }
 
-// Reads what stands up to the end mark, and puts it behind the values that were read. No room is made before a
-// value was read.
-fn read_steps<T: Step + Drop>(
-    alloc: Global,
-    reader: &mut Reader<'_>,
-    before: Vec<T>,
-    most: usize,
-) -> Result<Vec<T>, JuteFail>
-    ensures { Gives (λ v. v.items) result reader.new (behind_all before.items (until_at T.step.read most reader.old)) }
-{
-    let mut values = before;
-    for _ in 0..most {
-        match T::read_step(alloc, reader)? {
-            None => return Ok(values),
-            Some(value) => values.push(value)?,
-        }
-    }
-    Err(JuteFail::Short { at: reader.place() })
-}
-
 // Reads the values behind the first one.
-fn read_others<T: Step + Drop>(
+fn read_others<T: Marked + Drop>(
     alloc: Global,
     reader: &mut Reader<'_>,
     first: T,
 ) -> Result<Items<T>, JuteFail>
-    ensures { Gives (λ x. x) result reader.new (behind_all (first ∷ []) ((untils T.step).read reader.old)) }
+    ensures { Gives (λ x. x) result reader.new (behind_all (first ∷ []) ((untils T.form).read reader.old)) }
 {
-    let most = reader.rest().len() + 1;
     let mut before = Vec::new(alloc);
     before.push(first)?;
-    let values = read_steps(alloc, reader, before, most)?;
+    let values = read_marked_behind(alloc, reader, before)?;
     Ok(Items::from_vec(values))
 }
 
@@ -278,7 +237,7 @@ pub fn read_multi(alloc: Global, reader: &mut Reader<'_>) -> Result<WireReply, J
     let mark = read_mark(reader)?;
     match mark {
         Mark::Last => {
-            read_constant(reader, -1)?;
+            fixed_int(reader, END)?;
             Ok(WireReply::Multi(Items::new(alloc)))
         }
         Mark::Failing => {
@@ -290,4 +249,98 @@ pub fn read_multi(alloc: Global, reader: &mut Reader<'_>) -> Result<WireReply, J
             Ok(WireReply::Multi(results))
         }
     }
+}
+
+// Writes a result behind its mark, where it is one of an operation of that type.
+fn write_numbered(writer: &mut Writer, answer: &(i32, OpResult)) -> Result<(), NoMemory>
+    ensures { OnOk result (Wrote result_steps (Some answer.now) writer.old writer.new) }
+{
+    let (number, result) = answer;
+    match kind_named(number) {
+        None => Err(NoMemory),
+        Some(kind) => write_result(writer, kind, result),
+    }
+}
+
+fn kind_named(number: &i32) -> Option<OpKind>
+    ensures { result ≡ op_named number.now }
+{
+    op_kind_from(*number)
+}
+
+fn write_result(writer: &mut Writer, kind: OpKind, answer: &OpResult) -> Result<(), NoMemory>
+    ensures { OnOk result (Wrote result_steps (Some (op_number kind, answer.now)) writer.old writer.new) }
+{
+    write_type(writer, kind)?;
+    writer.boolean(false)?;
+    writer.int(0)?;
+    write_body(writer, kind, answer)?;
+    Ok(())
+}
+
+// Writes the number of an operation's type.
+fn write_type(writer: &mut Writer, kind: OpKind) -> Result<(), NoMemory>
+    ensures { OnOk result (Wrote ints (op_number kind) writer.old writer.new) }
+{
+    writer.int(op_number(kind))
+}
+
+// Writes what a result holds, where it is one of an operation of that type.
+fn write_body(writer: &mut Writer, kind: OpKind, answer: &OpResult) -> Result<(), NoMemory>
+    ensures { OnOk result (Wrote (op_replies kind) answer.now writer.old writer.new) }
+{
+    match (kind, answer) {
+        (OpKind::Delete | OpKind::Check, OpResult::Empty) => Ok(()),
+        (OpKind::Create, OpResult::Path(path)) => write_some_text(writer, path),
+        (OpKind::SetData, OpResult::Stat(stat)) => write_stat(writer, stat),
+        (OpKind::Create2, OpResult::PathStat(path, stat)) => {
+            write_some_text(writer, path)?;
+            write_stat(writer, stat)?;
+            Ok(())
+        }
+        _ => Err(NoMemory),
+    }
+}
+
+// Writes the code of a failure behind its mark.
+#[tactic(auto, unfolding(crate::specs::OpResults::lead_named))]
+fn write_code(writer: &mut Writer, code: i32) -> Result<(), NoMemory>
+    ensures { OnOk result (Wrote failure_steps (Some code) writer.old writer.new) }
+{
+    writer.int(END)?;
+    writer.boolean(false)?;
+    writer.int(code)?;
+    writer.int(code)?;
+    Ok(())
+}
+
+// Writes the end mark.
+#[tactic(auto, unfolding(crate::specs::OpResults::lead_named))]
+fn write_last(writer: &mut Writer) -> Result<(), NoMemory>
+    ensures results { OnOk result (Wrote result_steps None writer.old writer.new) }
+    ensures failures { OnOk result (Wrote failure_steps None writer.old writer.new) }
+{
+    writer.int(END)?;
+    writer.boolean(true)?;
+    writer.int(END)?;
+    Ok(())
+}
+
+// Writes the results of a multi, where each is one of an operation of its type.
+#[tactic(auto, using(crate::proofs::ResultWrites::wrote_held))]
+pub fn write_results(writer: &mut Writer, results: &Items<(i32, OpResult)>) -> Result<(), NoMemory>
+    ensures { OnOk result (Wrote multis (held results.now) writer.old writer.new) }
+{
+    write_marked(writer, results.as_slice())
+}
+
+// Writes the codes of a multi that failed, where there is one at least.
+#[tactic(auto, using(crate::proofs::ResultWrites::wrote_failed))]
+pub fn write_failures(writer: &mut Writer, codes: &Items<i32>) -> Result<(), NoMemory>
+    ensures { OnOk result (Wrote multis (failed codes.now) writer.old writer.new) }
+{
+    if codes.len() == 0 {
+        return Err(NoMemory);
+    }
+    write_marked(writer, codes.as_slice())
 }

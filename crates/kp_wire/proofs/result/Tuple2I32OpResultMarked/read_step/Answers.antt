@@ -2,7 +2,7 @@ use Rattle.std.proofs.Common.{◌≡◌, subst, Ok}
 use Rattle.std.proofs.lemmas.Result.{err_from_is_err_and}
 use Rattle.kp_wire.specs.OpResults.{all_marks}
 use Rattle.kp_wire.proofs.ResultSteps.{listed_ok, listed_fails}
-use Rattle.kp_wire.proofs.result.Tuple2I32OpResultStep.read_step.Goals as goal
+use Rattle.kp_wire.proofs.result.Tuple2I32OpResultMarked.read_step.Goals as goal
 
 pub returns-in_err-result-in-Listed : goal.returns-in_err-result-in-Listed
 returns-in_err-result-in-Listed c =

@@ -1,7 +1,0 @@
-use Rattle.std.proofs.Common.{◌≡◌, ◌-◌}
-use Rattle.kp_jute.specs.Jute.{until_at}
-use Rattle.kp_wire.specs.OpResults.{behind_all}
-use Rattle.kp_wire.proofs.result.read_steps.Given as goal
-
-abbrev pub invariant-loop : goal.invariant-loop
-invariant-loop g l = behind_all l.values.items (until_at g.T.Step.step.read (l.most - l.counter) l.reader) ≡ behind_all l.fn.before.items (until_at g.T.Step.step.read l.most l.fn.reader)

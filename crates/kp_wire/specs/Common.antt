@@ -1,8 +1,8 @@
 -- Forms that several records share, and what a call that reads or writes a whole packet has to do with its form.
-use Rattle.std.specs.Prelude.{◌≡◌, ℕ, List, Option, Some, Result, Ok, Err}
+use Rattle.std.specs.Prelude.{◌≡◌, ◌++◌, ℕ, List, Option, Some, Result, Ok, Err}
 use Rattle.kp_jute.specs.declared.fault.JuteFail.{JuteFail}
 use Rattle.kp_jute.specs.declared.fault.JuteFail.TheVariants as jute
-use Rattle.kp_jute.specs.Form.{Form, ◌⊗◌, seen, present}
+use Rattle.kp_jute.specs.Form.{Place, ◌>>=◌, Form, ◌⊗◌, seen, present}
 use Rattle.kp_jute.specs.Jute.{unsigned_ints, unsigned_longs, texts, packets}
 use Rattle.kp_wire.specs.declared.acl.WireAcl.{WireAcl}
 use Rattle.kp_wire.specs.declared.stat.Stat.{Stat}
@@ -71,3 +71,7 @@ Sends f v bytes = (packets f).Fits v × (bytes ≡ (packets f).spell v)
 -- what stands in the list, without the mark
 abbrev pub listed : {A : Type 0} → Form (Option A) → Form A
 listed f = record { Fits = λ a. f.Fits (Some a); spell = λ a. f.spell (Some a); read = (present f).read }
+
+-- values that were read before, and those that are read
+abbrev pub behind_all : {A : Type 0} → List A → Result (List A × Place) JuteFail → Result (List A × Place) JuteFail
+behind_all before read = read >>= λ x. Ok (before ++ x.0, x.1)

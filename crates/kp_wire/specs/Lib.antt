@@ -1,4 +1,10 @@
 pub mod Common
+pub mod Connects
+pub mod Events
 pub mod Kinds
 pub mod OpKinds
+pub mod OpResults
+pub mod Partly
+pub mod Replies
 pub mod Request
+pub mod ServerPackets

@@ -3,26 +3,41 @@
 #![tactic(auto)]
 
 mod acl;
+#[cfg(test)]
+mod answer_tests;
+mod connect;
+mod event;
 mod fail;
+mod field;
 mod fields;
 mod kind;
 mod list;
 mod marked;
 mod multi;
 mod op_kind;
+mod packet;
 mod promises;
 mod read;
+mod reply;
 mod request;
 #[cfg(test)]
 mod request_tests;
+mod result;
 mod stat;
 mod value;
 mod write;
 
 pub use acl::{WireAcl, WireAcls};
+pub use connect::{
+    ConnectReply, ConnectRequest, connect_laws, read_connect, read_connect_reply, write_connect,
+    write_connect_request,
+};
 pub use fail::WireFail;
+pub use packet::{Packet, packet_laws, read_packet, write_event, write_reply};
 pub use promises::laws;
 pub use read::read_request;
+pub use reply::WireReply;
 pub use request::{Request, WireAsk, WireOp, WireOps, WireTexts};
+pub use result::OpResult;
 pub use stat::Stat;
 pub use write::write_request;

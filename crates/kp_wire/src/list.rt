@@ -1,6 +1,6 @@
 //! Vectors: a count and that many elements, or null.
 
-ghost use Rattle.std.specs.Prelude.{◌≡◌, OnOk, option_map};
+ghost use Rattle.std.specs.Prelude.{◌≡◌, Some, OnOk};
 ghost use Rattle.kp_jute.specs.Form.{Form, Gives, Wrote, WroteAll};
 ghost use Rattle.kp_jute.specs.Jute.{items_at, vectors, vector_at};
 
@@ -80,15 +80,20 @@ pub fn write_vector<T: Element>(
 {
     match list {
         None => writer.count(None),
-        Some(list) => {
-            if list.len() > MOST {
-                return Err(NoMemory);
-            }
-            writer.count(Some(list.len() as u32))?;
-            write_items(writer, list.as_slice())?;
-            Ok(())
-        }
+        Some(list) => write_list(writer, list),
     }
+}
+
+// Writes a vector that is there.
+pub fn write_list<T: Element>(writer: &mut Writer, list: &Items<T>) -> Result<(), NoMemory>
+    ensures { OnOk result (Wrote (vectors T.form) (Some list.now) writer.old writer.new) }
+{
+    if list.len() > MOST {
+        return Err(NoMemory);
+    }
+    writer.count(Some(list.len() as u32))?;
+    write_items(writer, list.as_slice())?;
+    Ok(())
 }
 
 fn write_items<T: Element>(writer: &mut Writer, items: &[T]) -> Result<(), NoMemory>

@@ -3,7 +3,7 @@
 ghost use Rattle.std.specs.Prelude.{◌≡◌, Option, Some, None, OnOk};
 ghost use Rattle.kp_jute.specs.Form.{Form, Gives, Wrote, WroteAll};
 ghost use Rattle.kp_jute.specs.Jute.{until_at, untils};
-ghost use Rattle.kp_wire.specs.Common.{listed};
+ghost use Rattle.kp_wire.specs.Common.{listed, behind_all};
 
 use kp_jute::{JuteFail, NoMemory, Reader, Writer};
 use std::alloc::Global;
@@ -26,25 +26,38 @@ pub trait Marked: Sized {
 }
 
 // Reads such a list with its end mark.
+#[tactic(auto, using(crate::proofs::MarkedLists::behind_none))]
 pub fn read_marked<T: Marked + Drop>(
     alloc: Global,
     reader: &mut Reader<'_>,
 ) -> Result<Vec<T>, JuteFail>
     ensures { Gives (λ v. v.items) result reader.new ((untils T.form).read reader.old) }
 {
-    let most = reader.remaining() + 1;
-    read_steps(alloc, reader, most)
+    read_marked_behind(alloc, reader, Vec::new(alloc))
 }
 
-// Reads such a list with its end mark, in at most so many steps.
+// Reads such a list with its end mark, and puts it behind what was read before.
+pub fn read_marked_behind<T: Marked + Drop>(
+    alloc: Global,
+    reader: &mut Reader<'_>,
+    before: Vec<T>,
+) -> Result<Vec<T>, JuteFail>
+    ensures { Gives (λ v. v.items) result reader.new (behind_all before.items ((untils T.form).read reader.old)) }
+{
+    let most = reader.remaining() + 1;
+    read_steps(alloc, reader, before, most)
+}
+
+// The same in at most so many steps.
 fn read_steps<T: Marked + Drop>(
     alloc: Global,
     reader: &mut Reader<'_>,
+    before: Vec<T>,
     most: usize,
 ) -> Result<Vec<T>, JuteFail>
-    ensures { Gives (λ v. v.items) result reader.new (until_at T.form.read most reader.old) }
+    ensures { Gives (λ v. v.items) result reader.new (behind_all before.items (until_at T.form.read most reader.old)) }
 {
-    let mut items = Vec::new(alloc);
+    let mut items = before;
     for _ in 0..most {
         match T::read_step(alloc, reader)? {
             None => return Ok(items),

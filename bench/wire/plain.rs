@@ -113,6 +113,9 @@ impl<'a> Reader<'a> {
 
 fn read_request(frame: &[u8]) -> Result<Request, Bad> {
     let mut reader = Reader { bytes: frame, place: 0 };
+    if reader.int()? as usize != frame.len() - 4 {
+        return Err(Bad(0));
+    }
     let xid = reader.int()?;
     let at = reader.place;
     let ask = match reader.int()? {
@@ -186,6 +189,7 @@ fn put_text(out: &mut Vec<u8>, text: &[u8]) {
 
 fn request(kind: &str) -> Vec<u8> {
     let mut frame = Vec::new();
+    put_int(&mut frame, 0);
     put_int(&mut frame, 7);
     put_int(&mut frame, match kind { "create" => 1, "set" => 5, _ => 4 });
     put_text(&mut frame, PATH.as_bytes());
@@ -204,6 +208,8 @@ fn request(kind: &str) -> Vec<u8> {
         }
         _ => frame.push(0),
     }
+    let len = (frame.len() - 4) as i32;
+    frame[..4].copy_from_slice(&len.to_be_bytes());
     frame
 }
 

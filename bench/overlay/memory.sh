@@ -8,7 +8,7 @@ here=$(cd "$(dirname "$0")" && pwd)
 program=${1:-$here/../../crates/keeper/out/keeper}
 folder=$(mktemp -d)
 trap 'rm -r "$folder"' EXIT
-rustc -O -o "$folder/lines" "$here/lines.rs"
+rustc --edition 2021 -O -o "$folder/lines" "$here/lines.rs"
 for kind in churn churn-cut; do
     for count in 10000 500000; do
         "$folder/lines" $kind $count > "$folder/script"

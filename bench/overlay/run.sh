@@ -8,8 +8,8 @@ here=$(cd "$(dirname "$0")" && pwd)
 program=${1:-$here/../../crates/keeper/out/keeper}
 folder=$(mktemp -d)
 trap 'rm -r "$folder"' EXIT
-rustc -O -o "$folder/lines" "$here/lines.rs"
-rustc -O -o "$folder/plain" "$here/plain.rs"
+rustc --edition 2021 -O -o "$folder/lines" "$here/lines.rs"
+rustc --edition 2021 -O -o "$folder/plain" "$here/plain.rs"
 "$folder/lines" mixed 200000 10000 > "$folder/mixed"
 "$folder/lines" wide 10000 > "$folder/wide-10000"
 "$folder/lines" wide 1000000 > "$folder/wide-1000000"

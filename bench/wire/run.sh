@@ -7,7 +7,7 @@ here=$(cd "$(dirname "$0")" && pwd)
 program=${1:-$here/../../crates/bench_wire/out/bench_wire}
 folder=$(mktemp -d)
 trap 'rm -r "$folder"' EXIT
-rustc -O -o "$folder/plain" "$here/plain.rs"
+rustc --edition 2021 -O -o "$folder/plain" "$here/plain.rs"
 rounds=2000000
 # the best user time of a program, in hundredths of a second
 best() {

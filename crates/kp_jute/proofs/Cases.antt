@@ -1,8 +1,7 @@
 -- Forms with cases, and forms that take some values only: each is lawful where its parts are.
-use Rattle.std.proofs.Common.{◌≡◌, ℕ, ◌+◌, List, ◌++◌, length, Option, Some, None, Bool, true, false, ℤ, Result, Ok, Err, refl, sym, ap, subst, ◌∙◌, append_assoc, arith, length-append}
+use Rattle.std.proofs.Common.{◌≡◌, ℕ, ◌+◌, List, ◌++◌, length, Option, Some, None, Bool, true, false, ℤ, Ok, refl, sym, ap, subst, ◌∙◌, append_assoc, arith, length-append}
 use Rattle.std.specs.Ordering.{int_eq}
 use Rattle.std.proofs.lemmas.Bool.Decides.{Decides-int_eq}
-use Rattle.kp_jute.specs.declared.fault.JuteFail.{JuteFail}
 use Rattle.kp_jute.specs.Form.{IsBytes, Takes, front, Lawful, Place, ◌>>=◌, Form, tagged, narrowed, meant_at, present}
 use Rattle.kp_jute.specs.Jute.{ints, booleans, only_if, fixed_ints, same_boolean, fixed_booleans}
 use Rattle.kp_jute.proofs.Combined.{bind_ok, ok_is, Takes-then}

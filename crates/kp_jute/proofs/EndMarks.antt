@@ -1,9 +1,8 @@
 -- Values up to an end mark: the form is lawful where each value takes a byte at least.
-use Rattle.std.proofs.Common.{◌≡◌, ℕ, zero, suc, ◌+◌, ◌<◌, ◌≤◌, List, [], ◌∷◌, ◌++◌, length, Option, Some, None, Result, Ok, Err, refl, sym, ap, subst, ◌∙◌, append_assoc, arith, length-append}
+use Rattle.std.proofs.Common.{◌≡◌, ℕ, zero, suc, ◌+◌, ◌<◌, ◌≤◌, List, [], ◌∷◌, ◌++◌, length, Option, Some, None, Ok, refl, sym, ap, subst, ◌∙◌, append_assoc, arith, length-append}
 use Rattle.std.specs.List.{flat_map, AllByRecursion}
 use Rattle.std.proofs.lemmas.List.Concat.{flat_map-cons}
-use Rattle.kp_jute.specs.declared.fault.JuteFail.{JuteFail}
-use Rattle.kp_jute.specs.Form.{IsBytes, Takes, front, Lawful, Place, ◌>>=◌, Form}
+use Rattle.kp_jute.specs.Form.{IsBytes, Takes, front, Lawful, Place, Form}
 use Rattle.kp_jute.specs.Jute.{behind, until_at, untils}
 use Rattle.kp_jute.proofs.Combined.{bind_ok, ok_is, Takes-then}
 

@@ -1,5 +1,5 @@
 -- Counts, buffers, texts and vectors: each form is lawful.
-use Rattle.std.proofs.Common.{◌≡◌, ℕ, zero, suc, ◌+◌, ◌^◌, ◌<◌, ℤ, pos, negsuc, Bool, true, false, cond, List, [], ◌∷◌, ◌++◌, length, Option, Some, None, Result, Ok, Err, refl, sym, ap, subst, ◌∙◌, append_assoc, arith, length-append}
+use Rattle.std.proofs.Common.{◌≡◌, ℕ, zero, suc, ◌+◌, ◌^◌, ◌<◌, ℤ, pos, negsuc, cond, List, [], ◌∷◌, ◌++◌, length, Option, Some, None, Ok, Err, refl, sym, ap, subst, ◌∙◌, append_assoc, arith, length-append}
 use Rattle.std.specs.Prelude.{IfSome, FitsSigned}
 use Rattle.std.specs.Int.{w32}
 use Rattle.std.specs.List.{flat_map, AllByRecursion}
@@ -7,7 +7,6 @@ use Rattle.std.specs.Str.{is_utf8}
 use Rattle.std.proofs.lemmas.List.Concat.{flat_map-cons}
 use Rattle.std.proofs.lemmas.Int.{fits_signed_from_abs}
 use Rattle.std.proofs.Math.Facts.{sfits_lit}
-use Rattle.kp_jute.specs.declared.fault.JuteFail.{JuteFail}
 use Rattle.kp_jute.specs.declared.fault.JuteFail.TheVariants.{BadByte}
 use Rattle.kp_jute.specs.Form.{IsBytes, Takes, front, Lawful, Place, ◌>>=◌, Form}
 use Rattle.kp_jute.specs.Jute.{number, raw_at, number_at, count, count_of, count_at, counts, bytes_in, buffer, buffer_at, buffers, text_in, text_at, texts, items_at, some_items_at, vector_at, vector, vectors}

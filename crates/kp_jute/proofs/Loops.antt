@@ -4,7 +4,7 @@ use Rattle.std.proofs.lemmas.List.{append-nil}
 use Rattle.kp_jute.specs.declared.fault.JuteFail.{JuteFail}
 use Rattle.kp_jute.specs.declared.fault.JuteFail.TheVariants.{NoMemory, Short, BadLength, BadByte}
 use Rattle.kp_jute.specs.Form.{◌>>=◌, Fails, Place, Reading}
-use Rattle.kp_jute.specs.Jute.{items_at, until_at, behind}
+use Rattle.kp_jute.specs.Jute.{items_at, until_at}
 
 -- what was read before, and what is still read
 abbrev pub with_front : {A : Type 0} → List A → Result (List A × Place) JuteFail → Result (List A × Place) JuteFail

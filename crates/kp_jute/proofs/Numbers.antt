@@ -1,5 +1,5 @@
 -- Numbers and booleans: each form is lawful.
-use Rattle.std.proofs.Common.{◌≡◌, ℕ, zero, suc, ◌+◌, ◌^◌, ◌<◌, ◌≤◌, ℤ, Bool, true, false, ltb, List, [], ◌∷◌, ◌++◌, length, take, Result, Ok, Err, refl, sym, ap, subst, ◌∙◌, arith, length-append}
+use Rattle.std.proofs.Common.{◌≡◌, ℕ, zero, suc, ◌+◌, ◌^◌, ◌<◌, ◌≤◌, ℤ, Bool, true, false, ltb, List, [], ◌∷◌, ◌++◌, length, take, Ok, refl, sym, ap, subst, ◌∙◌, arith, length-append}
 use Rattle.std.specs.Prelude.{FitsSigned}
 use Rattle.std.specs.Int.{Width, w32, w64, byte_len, from_be_bytes, to_be_bytes, cast_signed, cast_unsigned}
 use Rattle.std.proofs.lemmas.Bool.{ltb-false, le-ltb}
@@ -7,9 +7,8 @@ use Rattle.std.proofs.lemmas.List.{take_at, drop_at, take-append-drop, length-ta
 use Rattle.std.proofs.lemmas.Nat.{be_bytes_4, be_bytes_8, from_be_bytes-to_be_bytes_4, from_be_bytes-to_be_bytes_8}
 use Rattle.std.proofs.lemmas.Int.{of_z-to_z, to_z-of_z}
 use Rattle.std.proofs.Math.Facts.{sfits_to_z, Fits-of_z, Fits-of_lt, Fits-lt-pow}
-use Rattle.kp_jute.specs.declared.fault.JuteFail.{JuteFail}
-use Rattle.kp_jute.specs.declared.fault.JuteFail.TheVariants.{Short, BadByte}
-use Rattle.kp_jute.specs.Form.{IsBytes, Takes, front, Lawful, Place, past, ◌>>=◌}
+use Rattle.kp_jute.specs.declared.fault.JuteFail.TheVariants.{Short}
+use Rattle.kp_jute.specs.Form.{IsBytes, Takes, front, Lawful, Place, past}
 use Rattle.kp_jute.specs.Jute.{number, number_of, raw_at, number_at, numbers, ints, longs, unsigned, unsigned_of, unsigned_at, unsigneds, unsigned_ints, unsigned_longs, raws, boolean_in, boolean_at, booleans}
 use Rattle.kp_jute.proofs.Combined.{IsBytes-drop, IsBytes-take, bind_ok, guard_ok, ok_is}
 

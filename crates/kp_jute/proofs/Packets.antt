@@ -1,8 +1,7 @@
 -- Packets: the bytes of one by themselves, its length written over the gap, and the law of their form.
-use Rattle.std.proofs.Common.{◌≡◌, ℕ, zero, suc, ◌+◌, ◌^◌, ◌<◌, ◌≤◌, List, [], ◌∷◌, ◌++◌, length, take, drop, set, Option, Some, None, Result, Ok, Err, refl, sym, ap, subst, ◌∙◌, append_assoc, arith, length-append}
+use Rattle.std.proofs.Common.{◌≡◌, ℕ, ◌+◌, ◌^◌, ◌<◌, ◌≤◌, List, [], ◌∷◌, ◌++◌, length, take, drop, set, Option, Some, None, Ok, refl, sym, ap, subst, ◌∙◌, append_assoc, arith, length-append}
 use Rattle.std.specs.Prelude.{IfSome}
 use Rattle.std.proofs.lemmas.List.{drop-take, length-drop, nil_from_length}
-use Rattle.kp_jute.specs.declared.fault.JuteFail.{JuteFail}
 use Rattle.kp_jute.specs.Form.{IsBytes, Takes, front, LawfulAtEnd, Lawful, Place, ◌>>=◌, Form, ended}
 use Rattle.kp_jute.specs.Jute.{count, count_at, present_length, raw_at, packet_at, packets, buffer}
 use Rattle.kp_jute.proofs.Combined.{bind_ok, ok_is, Takes-then}

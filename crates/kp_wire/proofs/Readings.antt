@@ -1,5 +1,5 @@
 -- Readings that are the same: a form is lawful with one where it is with the other.
-use Rattle.std.proofs.Common.{◌≡◌, ℕ, ◌+◌, List, [], ◌++◌, length, Result, Ok, Err, refl, sym, ◌∙◌}
+use Rattle.std.proofs.Common.{◌≡◌, ◌++◌, Result, Ok, Err, refl, sym, ◌∙◌}
 use Rattle.kp_jute.specs.declared.fault.JuteFail.{JuteFail}
 use Rattle.kp_jute.specs.Form.{Form, Place, Reading, ◌>>=◌, Lawful, LawfulAtEnd, front}
 

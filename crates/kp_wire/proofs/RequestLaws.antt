@@ -1,7 +1,7 @@
 -- The forms of requests are lawful.
-use Rattle.std.proofs.Common.{◌≡◌, ℕ, ◌<◌, negsuc, Bool, List, length, Option, Some, None, Result, Ok, Err, refl, sym, ap, ◌∙◌, arith}
+use Rattle.std.proofs.Common.{◌≡◌, ℕ, ◌<◌, negsuc, Bool, length, Option, Some, None, Result, Ok, Err, refl, sym, ap, ◌∙◌, arith}
 use Rattle.kp_jute.specs.declared.fault.JuteFail.{JuteFail}
-use Rattle.kp_jute.specs.Form.{Form, Place, ◌>>=◌, ◌⊗◌, Lawful, LawfulAtEnd, Takes, front, seen, remains}
+use Rattle.kp_jute.specs.Form.{Place, ◌>>=◌, ◌⊗◌, Lawful, LawfulAtEnd, front, seen}
 use Rattle.kp_jute.specs.Jute.{ints, longs, unsigned_ints, booleans, buffers, texts, vectors, untils, number, fixed_booleans, fixed_ints, packets}
 use Rattle.kp_jute.proofs.Combined.{◌&◌, seen_lawful, ok_is}
 use Rattle.kp_jute.proofs.Cases.{tagged_lawful, fixed_ints_lawful, fixed_booleans_lawful}
@@ -12,7 +12,6 @@ use Rattle.kp_jute.proofs.Numbers.{ints_lawful, longs_lawful, unsigned_ints_lawf
 use Rattle.kp_jute.proofs.Packets.{packets_lawful}
 use Rattle.kp_wire.specs.declared.kind.Kind.{Kind}
 use Rattle.kp_wire.specs.declared.kind.Kind.TheVariants as kinds
-use Rattle.kp_wire.specs.declared.kind.LookKind.{LookKind}
 use Rattle.kp_wire.specs.declared.kind.LookKind.TheVariants as looks
 use Rattle.kp_wire.specs.declared.op_kind.OpKind.{OpKind}
 use Rattle.kp_wire.specs.declared.op_kind.OpKind.TheVariants as op_kinds
@@ -22,7 +21,7 @@ use Rattle.kp_wire.specs.declared.request.WireOp.{WireOp}
 use Rattle.kp_wire.specs.declared.request.WireOp.TheVariants as op
 use Rattle.kp_wire.specs.Common.{wire_acls}
 use Rattle.kp_wire.specs.Kinds.{kind_forms}
-use Rattle.kp_wire.specs.Request.{read_as, creations, versioneds, watcheds, settings, acl_settings, showings, watches, nothing, OpHeld, op_forms, step_kinds, is_end, StepHeld, step_bodies, marks, step_rests, op_of, op_kind, op_held, step_of, step_in, op_at, behind_mark, step_parts, steps, Held, held_forms, ask_of_op, look_of, ask_of, ask_kind, ask_held, ask_at, ask_parts, asks, requests}
+use Rattle.kp_wire.specs.Request.{read_as, creations, versioneds, watcheds, settings, acl_settings, showings, watches, nothing, OpHeld, op_forms, step_kinds, is_end, StepHeld, step_bodies, marks, step_rests, op_of, step_of, step_in, op_at, behind_mark, step_parts, steps, Held, held_forms, ask_of_op, ask_of, ask_kind, ask_held, ask_at, ask_parts, asks, requests}
 use Rattle.kp_wire.proofs.CommonLaws.{wire_acls_lawful}
 use Rattle.kp_wire.proofs.KindLaws.{kinds_lawful, step_kinds_lawful}
 use Rattle.kp_wire.proofs.Readings.{bind_assoc, bind_same, same_lawful, same_at_end}

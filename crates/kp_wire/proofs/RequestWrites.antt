@@ -1,5 +1,5 @@
 -- What is written field by field is the spelling of the operation or the request.
-use Rattle.std.proofs.Common.{◌≡◌, ℕ, false, List, [], ◌++◌, Some, refl, sym, ap, ◌∙◌, append_assoc}
+use Rattle.std.proofs.Common.{ℕ, false, List, ◌++◌, Some, sym, ap, ◌∙◌, append_assoc}
 use Rattle.std.proofs.lemmas.List.{append-nil}
 use Rattle.kp_jute.specs.Form.{Wrote}
 use Rattle.kp_wire.specs.declared.request.WireAsk.{WireAsk}

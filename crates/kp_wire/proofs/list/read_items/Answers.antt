@@ -1,4 +1,3 @@
-use Rattle.std.proofs.Common.{◌≡◌, ◌++◌, ◌∷◌, []}
 use Rattle.std.proofs.lemmas.Result.{err_from_is_err_and}
 use Rattle.kp_jute.specs.Jute.{items_at}
 use Rattle.kp_jute.proofs.Loops.{items_go_on, items_fail, items_end}

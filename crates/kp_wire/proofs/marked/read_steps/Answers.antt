@@ -1,4 +1,4 @@
-use Rattle.std.proofs.Common.{◌≡◌, ◌++◌, ◌∷◌, [], subst, Ok}
+use Rattle.std.proofs.Common.{◌≡◌, subst, Ok}
 use Rattle.std.proofs.lemmas.Result.{err_from_is_err_and}
 use Rattle.kp_jute.specs.Jute.{until_at}
 use Rattle.kp_jute.proofs.Loops.{until_goes_on, until_stops, until_fails, until_runs_out}

@@ -1,4 +1,4 @@
-use Rattle.std.proofs.Common.{◌≡◌, subst}
+use Rattle.std.proofs.Common.{subst}
 use Rattle.kp_jute.specs.Form.{Wrote}
 use Rattle.kp_wire.specs.Kinds.{kind_forms}
 use Rattle.kp_wire.proofs.RequestWrites.{ask_written}

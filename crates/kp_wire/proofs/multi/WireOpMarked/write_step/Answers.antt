@@ -1,4 +1,4 @@
-use Rattle.std.proofs.Common.{◌≡◌, Some, subst}
+use Rattle.std.proofs.Common.{Some, subst}
 use Rattle.kp_jute.specs.Form.{Wrote}
 use Rattle.kp_wire.specs.Request.{step_kinds}
 use Rattle.kp_wire.proofs.RequestWrites.{step_written}

@@ -55,3 +55,39 @@ fn writes_what_is_sent(rt: HostRuntime) -> Result<(), NoMemory> {
     assert_eq!(rt; &writer.finish()[..], CONNECT);
     Ok(())
 }
+
+// A packet of five bytes, and one byte behind it.
+const PACKET: &[u8] = b"\0\0\0\x05\xff\xff\xff\xfe\x07\x09";
+
+#[test]
+fn reads_a_packet_by_itself(rt: HostRuntime) -> Result<(), JuteFail> {
+    let mut reader = Reader::new(PACKET);
+    let mut packet = reader.packet()?;
+    assert_eq!(rt; packet.remaining(), 5);
+    assert_eq!(rt; packet.unsigned_int()?, 0xffff_fffe);
+    assert_eq!(rt; packet.place(), 8);
+    assert_eq!(rt; packet.end(), Err(JuteFail::BadByte { at: 8 }));
+    assert!(rt; packet.take(2).is_err());
+    assert_eq!(rt; packet.take(1)?, &[7][..]);
+    packet.end()?;
+    assert_eq!(rt; reader.rest(), &[9][..]);
+    assert_eq!(rt; reader.take_rest(), &[9][..]);
+    reader.end()?;
+    assert_eq!(rt;
+        Reader::new(&PACKET[1..]).unsigned_long()?,
+        0x05ff_ffff_fe07
+    );
+    Ok(())
+}
+
+#[test]
+fn writes_a_packet(rt: HostRuntime) -> Result<(), NoMemory> {
+    let mut writer = Writer::for_packet(rt.alloc())?;
+    writer.unsigned_int(0xffff_fffe)?;
+    writer.raw(&[7])?;
+    assert_eq!(rt; &writer.finish_packet()?[..], &PACKET[..9]);
+    let mut writer = Writer::new(rt.alloc());
+    writer.unsigned_long(0x0100_0000_0000_00ff)?;
+    assert_eq!(rt; &writer.finish()[..], &b"\x01\0\0\0\0\0\0\xff"[..]);
+    Ok(())
+}

@@ -14,8 +14,8 @@ use crate::marked::write_marked;
 use crate::op_kind::OpKind;
 use crate::request::{Request, WireAsk};
 use crate::value::write_text;
-use kp_jute::{NoMemory, Writer};
-use kp_model::Bytes;
+use kp_jute::{NoMemory as Unwritten, Writer};
+use kp_model::{Bytes, NoMemory};
 use std::alloc::Global;
 
 /// Writes a request as the packet that `read_request` reads. Answers `NoMemory` also for what has no spelling: a
@@ -23,12 +23,22 @@ use std::alloc::Global;
 pub fn write_request(alloc: Global, request: &Request) -> Result<Bytes, NoMemory>
     ensures { IfOk result (λ bytes. Sends requests request.now bytes) }
 {
-    let mut writer = Writer::for_packet(alloc)?;
-    write_record(&mut writer, request)?;
-    Ok(Bytes::from_vec(writer.finish_packet()?))
+    match write_packet(alloc, request) {
+        Ok(bytes) => Ok(Bytes::from_vec(bytes)),
+        Err(_) => Err(NoMemory),
+    }
 }
 
-fn write_record(writer: &mut Writer, request: &Request) -> Result<(), NoMemory>
+fn write_packet(alloc: Global, request: &Request) -> Result<Vec<u8>, Unwritten>
+    ensures { IfOk result (λ bytes. Sends requests request.now bytes.items) }
+{
+    let mut writer = Writer::for_packet(alloc)?;
+    write_record(&mut writer, request)?;
+    let packet = writer.finish_packet()?;
+    Ok(packet)
+}
+
+fn write_record(writer: &mut Writer, request: &Request) -> Result<(), Unwritten>
     ensures { OnOk result (Wrote requests request.now writer.old writer.new) }
 {
     writer.int(request.xid)?;
@@ -36,7 +46,7 @@ fn write_record(writer: &mut Writer, request: &Request) -> Result<(), NoMemory>
     Ok(())
 }
 
-fn write_ask(writer: &mut Writer, ask: &WireAsk) -> Result<(), NoMemory>
+fn write_ask(writer: &mut Writer, ask: &WireAsk) -> Result<(), Unwritten>
     ensures { OnOk result (Wrote asks ask.now writer.old writer.new) }
 {
     write_kind(writer, kind_of_ask(ask))?;
@@ -70,7 +80,7 @@ fn kind_of_ask(ask: &WireAsk) -> Kind
 }
 
 // Writes the fields of a request.
-fn write_fields(writer: &mut Writer, ask: &WireAsk) -> Result<(), NoMemory>
+fn write_fields(writer: &mut Writer, ask: &WireAsk) -> Result<(), Unwritten>
     ensures { OnOk result (WroteAsk ask.now writer.old writer.new) }
 {
     match ask {

@@ -1,7 +1,7 @@
 //! What a connection begins with: the connect request and the connect reply.
 
 ghost use Rattle.std.specs.Prelude.{◌≡◌, ◌<◌, ◌^◌, Ok, IfOk, OnOk};
-ghost use Rattle.kp_jute.specs.Form.{◌⊗◌, Gives, Answers, Wrote, Lawful, if_any, whole};
+ghost use Rattle.kp_jute.specs.Form.{◌⊗◌, Gives, Answers, Wrote, if_any, whole};
 ghost use Rattle.kp_jute.specs.Jute.{booleans, fixed_booleans};
 ghost use Rattle.kp_wire.specs.Common.{Tells, Sends, refused_as};
 ghost use Rattle.kp_wire.specs.Connects.{session_asks, secrets, connects, connect_packets, connect_answers, connect_answer_packets, passwords, flags};
@@ -93,13 +93,6 @@ pub fn write_connect(alloc: Global, reply: &ConnectReply) -> Result<Bytes, NoMem
         Err(_) => Err(NoMemory),
     }
 }
-
-/// The packets with which a connection begins are read exactly where the bytes begin with their spelling, and each
-/// value has one spelling.
-pub fn connect_laws()
-    ensures request { Lawful connect_packets }
-    ensures reply { Lawful connect_answer_packets }
-{}
 
 fn whole_request(alloc: Global, frame: &[u8]) -> Result<ConnectRequest, JuteFail>
     ensures { Answers (λ x. x) result (whole connect_packets frame.now) }

@@ -6,6 +6,7 @@ mod acl;
 #[cfg(test)]
 mod answer_tests;
 mod connect;
+mod copy;
 mod event;
 mod fail;
 mod field;
@@ -29,11 +30,11 @@ mod write;
 
 pub use acl::{WireAcl, WireAcls};
 pub use connect::{
-    ConnectReply, ConnectRequest, connect_laws, read_connect, read_connect_reply, write_connect,
+    ConnectReply, ConnectRequest, read_connect, read_connect_reply, write_connect,
     write_connect_request,
 };
 pub use fail::WireFail;
-pub use packet::{Packet, packet_laws, read_packet, write_event, write_reply};
+pub use packet::{Packet, read_packet, write_event, write_reply};
 pub use promises::laws;
 pub use read::read_request;
 pub use reply::WireReply;

@@ -2,7 +2,7 @@
 
 ghost use Rattle.std.specs.Prelude.{◌≡◌, Ok, IfOk, OnOk};
 ghost use Rattle.std.specs.Int.{w64, cast_signed};
-ghost use Rattle.kp_jute.specs.Form.{Gives, Answers, Wrote, Lawful, whole};
+ghost use Rattle.kp_jute.specs.Form.{Gives, Answers, Wrote, whole};
 ghost use Rattle.kp_wire.specs.Common.{Tells, Sends, refused_as};
 ghost use Rattle.kp_wire.specs.Replies.{shape_of, HasShape};
 ghost use Rattle.kp_wire.specs.ServerPackets.{server_packets, headers, answers, event_answers, reply_answers, is_event};
@@ -72,12 +72,6 @@ pub fn write_event(alloc: Global, event: &Event) -> Result<Bytes, NoMemory>
         Err(_) => Err(NoMemory),
     }
 }
-
-/// A packet is read exactly where the bytes begin with its spelling, and has one spelling, whatever the shape of the
-/// replies.
-pub fn packet_laws()
-    ensures { (s : Shape) → Lawful (server_packets s) }
-{}
 
 // Reads a packet where the replies have the shape.
 fn read_shaped(alloc: Global, shape: Shape, frame: &[u8]) -> Result<Packet, WireFail>

@@ -1,5 +1,5 @@
 -- The paths that a walk lists are those that pass in the map by paths.
-use Rattle.std.proofs.Common.{◌≡◌, Bool, true, false, List, ℕ, Option, Some, None, refl, ap, sym, ◌∙◌}
+use Rattle.std.proofs.Common.{◌≡◌, nat_eq, Bool, true, false, List, ℕ, Option, Some, None, refl, ap, sym, ◌∙◌}
 use Rattle.std.specs.Prelude.{◌==◌}
 use Rattle.std.proofs.lemmas.Bool.{eqb-true}
 use Rattle.std.specs.List.{filter}
@@ -17,6 +17,8 @@ use Rattle.kp_cells.specs.Parts.{Parts, FitTogether}
 use Rattle.kp_cells.specs.Sides.{parts_at}
 use Rattle.kp_cells.specs.Held.{overlays}
 use Rattle.kp_cells.specs.Traced.{is_in}
+use Rattle.kp_layers.specs.Grouped.{is_of, is_in as is_member}
+use Rattle.std.proofs.lemmas.Map.Views.{any-filter_same}
 use Rattle.kp_cells.proofs.Maps.{no}
 use Rattle.kp_cells.proofs.Walked.{taken_there, among_keys}
 use Rattle.kp_cells.specs.Naming.{Naming, IsNaming, IsNamed, layers_by_path}
@@ -36,7 +38,7 @@ module _ (names : Naming) (h : IsNaming names) (l : Layering nat_cmp Meta) (name
       listed path_total path_same f (side_of latest (layers_by_path names l)) (takes f names (side_of latest l)) paths lists same
       ∙ ap (λ (g : List ℕ → Bool). filter g (fin.keys (side_of latest (layers_by_path names l)))) (λ i q. same q i)
 
--- the numbers of the nodes of an owner are among the keys of the owners
+-- the numbers of the nodes of an owner are the keys of its group
 module _ (names : Naming) (h : IsNaming names) (metas : Layering nat_cmp Meta) (contents : Layering nat_cmp (List ℕ)) (acls : Layering nat_cmp (List Acl)) (children : Layering nat_cmp (Unit {0})) (owners : Layering nat_cmp ℕ) (sessions : Layering nat_cmp Session) (next : Layering nat_cmp ℕ) (applied : ℕ)
     (metas_named : IsNamed names metas) (owners_named : IsNamed names owners) (latest : Bool) (fits : FitTogether (parts_at latest (overlays names metas contents acls children owners sessions next applied))) (id : ℕ) (some : (id == 0) ≡ false) where
   abbrev parts : Parts
@@ -58,8 +60,15 @@ module _ (names : Naming) (h : IsNaming names) (metas : Layering nat_cmp Meta) (
       let has : get parts.owners q ≡ Some m.owner = owner_shown parts q m fits shown (ap (λ i. i == 0) is ∙ some) in
       sym (ap (option_and_then (get (side_of latest owners))) e) ∙ at_side names h owners owners_named latest q ∙ sym (ap (λ z. get z q) (owners_of latest)) ∙ has
 
-  pub owned_among : AreAmong (λ _ m. m.owner == id) names (side_of latest metas) (fin.keys (side_of latest owners))
+  abbrev in_group : ℕ → Bool
+  in_group = is_member nat_eq (λ (owner : ℕ). Some owner) (side_of latest owners) id
+
+  pub owned_among : AreAmong (λ _ m. m.owner == id) names (side_of latest metas) (filter in_group (fin.keys (side_of latest owners)))
   owned_among q n e t = here (get (side_of latest metas) n) refl (taken_there names h (side_of latest metas) (λ _ m. m.owner == id) q n e t) where
-    here : (r : Option Meta) → get (side_of latest metas) n ≡ r → option_map_or (λ (m : Meta). m.owner == id) r false ≡ true → is_in n (fin.keys (side_of latest owners)) ≡ true
+    here : (r : Option Meta) → get (side_of latest metas) n ≡ r → option_map_or (λ (m : Meta). m.owner == id) r false ≡ true → is_in n (filter in_group (fin.keys (side_of latest owners))) ≡ true
     here None g s = no false refl s
-    here (Some m) g s = among_keys (side_of latest owners) n m.owner (at q n m e g s)
+    here (Some m) g s =
+        let has : get (side_of latest owners) n ≡ Some m.owner = at q n m e g s in
+        let mine : in_group n ≡ true = ap (is_of nat_eq (λ (owner : ℕ). Some owner) id) has ∙ s in
+        any-filter_same (nat_eq n) in_group true (λ k same. ap in_group (sym (eqb-true n k same)) ∙ mine) (fin.keys (side_of latest owners))
+        ∙ among_keys (side_of latest owners) n m.owner has

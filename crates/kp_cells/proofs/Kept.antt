@@ -1,5 +1,5 @@
 -- Which paths are in use after a path has got a number, and what is kept of the parts.
-use Rattle.std.proofs.Common.{◌≡◌, ℕ, Bool, true, false, cond, nat_eq, ◌||◌, List, [], ◌∷◌, Option, Some, None, is_some, refl, ap, sym, ◌∙◌, subst}
+use Rattle.std.proofs.Common.{◌≡◌, ℕ, Bool, true, false, cond, nat_eq, ◌||◌, List, [], ◌∷◌, Some, is_some, refl, ap, sym, ◌∙◌, subst}
 use Rattle.std.specs.Str.{bytes_eq}
 use Rattle.std.specs.Ordering.{nat_cmp}
 use Rattle.std.specs.Cmp.{nat_eq_equiv}
@@ -11,7 +11,7 @@ use Rattle.kp_model.specs.declared.node.Meta.{Meta}
 use Rattle.kp_model.specs.declared.session.Session.{Session}
 use Rattle.kp_model.specs.State.{path_cmp}
 use Rattle.kp_cells.specs.Naming.{Naming, no_names}
-use Rattle.kp_cells.specs.Traced.{Trace, no_trace, is_in, left, IsTraced, AreUsed, AreKept}
+use Rattle.kp_cells.specs.Traced.{Trace, no_trace, left, IsTraced, AreUsed, AreKept}
 use Rattle.kp_cells.proofs.Named.{no_number}
 use Rattle.kp_cells.proofs.Forgotten.{nothing_is}
 use Rattle.kp_cells.proofs.Released.{left_true, right_true, one_of, used_still}

@@ -5,7 +5,7 @@ pub mod Together
 pub mod Listed
 pub mod Shown
 pub mod Walked
-pub mod Counted
+pub mod Holders
 pub mod Gathered
 mod Anyone
 pub mod Kinned

@@ -1,7 +1,7 @@
 -- Paths that give back their numbers: the parts, by paths, stay as they are.
 use Rattle.std.proofs.Common.{◌≡◌, ℕ, Bool, true, false, cond, nat_eq, ◌&&◌, ◌||◌, List, [], ◌∷◌, ◌++◌, Option, Some, None, is_some, refl, ap, sym, ◌∙◌}
 use Rattle.std.specs.Prelude.{not}
-use Rattle.std.specs.List.{All, list_any}
+use Rattle.std.specs.List.{All}
 use Rattle.std.specs.Ordering.{nat_cmp}
 use Rattle.std.specs.Cmp.{unsigned_tied, nat_eq_equiv}
 use Rattle.std.specs.FinMap.{get}
@@ -13,7 +13,6 @@ use Rattle.kp_model.specs.declared.node.Meta.{Meta}
 use Rattle.kp_model.specs.declared.session.Session.{Session}
 use Rattle.kp_cells.specs.Naming.{Naming, IsNaming, Grows, Knows, AreKnown, IsNamed, layers_by_path}
 use Rattle.kp_cells.specs.Held.{overlays, AreHeld}
-use Rattle.kp_cells.specs.Overlays.{Overlays}
 use Rattle.kp_cells.specs.Traced.{is_in, uses, left, AreUsed}
 use Rattle.kp_cells.proofs.Named.{no_number}
 use Rattle.kp_cells.proofs.Forgotten.{nothing_is}

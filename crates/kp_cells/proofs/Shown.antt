@@ -1,7 +1,7 @@
 -- What the parts have is what is seen of the state that they make.
 use Rattle.std.proofs.Common.{◌≡◌, ℕ, Bool, true, false, cond, List, [], Option, Some, None, refl, ap, sym, ◌∙◌}
 use Rattle.std.specs.Prelude.{map, not, unwrap_or, ◌==◌}
-use Rattle.std.specs.List.{filter, list_any}
+use Rattle.std.specs.List.{filter}
 use Rattle.std.specs.Option.{option_map, option_map_or}
 use Rattle.std.specs.Cmp.{IsTotalOrder}
 use Rattle.std.specs.Cmp.Lexicographic.{nat_list_cmp_total}
@@ -9,18 +9,15 @@ use Rattle.std.specs.FinMap as fin
 use Rattle.std.specs.FinMap.{slice_cmp-IsAntisymmetric, nat_cmp-IsAntisymmetric}
 use Rattle.kp_model.specs.declared.node.Node.{Node}
 use Rattle.kp_model.specs.declared.node.Meta.{Meta}
-use Rattle.kp_model.specs.declared.session.Origin.{Origin}
 use Rattle.kp_model.specs.Path.{name}
 use Rattle.kp_model.specs.Poured.{node_of}
-use Rattle.kp_model.specs.State.{path_cmp, stat, meta_at, bytes_at, acl_at, is_child, children, kids, owned, is_owned, is_held}
+use Rattle.kp_model.specs.State.{path_cmp, stat, meta_at, bytes_at, acl_at, is_child, children, kids, owned, is_owned}
 use Rattle.kp_layers.specs.Layering.{latest_of}
 use Rattle.kp_cells.specs.Overlays.{Overlays, latest_parts, committed_parts, latest_state, committed_state}
 use Rattle.kp_cells.specs.Mapped.{kept}
 use Rattle.kp_cells.specs.Parts.{Parts, parts_of, whole, FitTogether}
-use Rattle.kp_cells.specs.Viewed.{AreNumbered, AreShown}
-use Rattle.kp_cells.specs.Listed.{Test, passes, below, is_held_at}
+use Rattle.kp_cells.specs.Listed.{Test, passes}
 use Rattle.kp_cells.proofs.Listed.{same_filter, filter-all}
-use Rattle.kp_cells.proofs.Counted.{held_found}
 use Rattle.kp_cells.proofs.Maps.{picked, passing, get-mapped, get-kept}
 
 pub path_total : IsTotalOrder path_cmp
@@ -42,25 +39,25 @@ module _ (k : ℕ) (p : Parts) (q : List ℕ) (h : FitTogether p) where
   unfolding parts_of whole acl_at
   acl_shown = ap (λ z. fin.get z.acls q) h ∙ get-mapped path_total path_same (λ _ (n : Node). n.acl) (whole 0 p).nodes q
 
-module _ (o : Overlays) (q : List ℕ) (h : AreShown (latest_parts o)) where
+module _ (o : Overlays) (q : List ℕ) (h : FitTogether (latest_parts o)) where
   pub latest_meta_shown : fin.get (latest_of o.metas) q ≡ meta_at (latest_state o).nodes q
-  latest_meta_shown = meta_shown _ (latest_parts o) q h.fit
+  latest_meta_shown = meta_shown _ (latest_parts o) q h
 
   pub latest_content_shown : fin.get (latest_of o.contents) q ≡ bytes_at (latest_state o).nodes q
-  latest_content_shown = content_shown _ (latest_parts o) q h.fit
+  latest_content_shown = content_shown _ (latest_parts o) q h
 
   pub latest_acl_shown : fin.get (latest_of o.acls) q ≡ acl_at (latest_state o).nodes q
-  latest_acl_shown = acl_shown _ (latest_parts o) q h.fit
+  latest_acl_shown = acl_shown _ (latest_parts o) q h
 
-module _ (o : Overlays) (q : List ℕ) (h : AreShown (committed_parts o)) where
+module _ (o : Overlays) (q : List ℕ) (h : FitTogether (committed_parts o)) where
   pub committed_meta_shown : fin.get o.metas.base q ≡ meta_at (committed_state o).nodes q
-  committed_meta_shown = meta_shown _ (committed_parts o) q h.fit
+  committed_meta_shown = meta_shown _ (committed_parts o) q h
 
   pub committed_content_shown : fin.get o.contents.base q ≡ bytes_at (committed_state o).nodes q
-  committed_content_shown = content_shown _ (committed_parts o) q h.fit
+  committed_content_shown = content_shown _ (committed_parts o) q h
 
   pub committed_acl_shown : fin.get o.acls.base q ≡ acl_at (committed_state o).nodes q
-  committed_acl_shown = acl_shown _ (committed_parts o) q h.fit
+  committed_acl_shown = acl_shown _ (committed_parts o) q h
 
 -- the node that the parts make of what is shown of it
 abbrev node_at : Parts → List ℕ → Meta → Node
@@ -94,11 +91,6 @@ module _ (k : ℕ) (p : Parts) where
   pub paths_shown : filter (passes (λ _ _. true) p.metas) (fin.keys p.metas) ≡ fin.keys (whole k p).nodes
   paths_shown = chosen_in (λ _ _. true) (λ _. true) (λ q m e. refl) ∙ filter-all (fin.keys (whole k p).nodes)
 
-  module _ (h : AreNumbered p) where
-    pub held_shown : (origin : Origin) → list_any (is_held_at p.sessions origin) (below p.next) ≡ is_held (whole k p).sessions origin
-    unfolding whole
-    held_shown origin = held_found p.sessions p.next origin h
-
 -- a node's owner is the one that is shown of it
 pub owner_shown : (p : Parts) (q : List ℕ) (m : Meta) → FitTogether p → fin.get p.metas q ≡ Some m → (m.owner == 0) ≡ false → fin.get p.owners q ≡ Some m.owner
 unfolding parts_of
@@ -127,11 +119,3 @@ module _ (o : Overlays) where
 
   pub committed_paths : filter (passes (λ _ _. true) o.metas.base) (fin.keys o.metas.base) ≡ fin.keys (committed_state o).nodes
   committed_paths = paths_shown _ (committed_parts o)
-
-module _ (o : Overlays) (h : AreShown (latest_parts o)) where
-  pub latest_held : (origin : Origin) → list_any (is_held_at (latest_of o.sessions) origin) (below (latest_parts o).next) ≡ is_held (latest_state o).sessions origin
-  latest_held origin = held_shown _ (latest_parts o) h.numbered origin
-
-module _ (o : Overlays) (h : AreShown (committed_parts o)) where
-  pub committed_held : (origin : Origin) → list_any (is_held_at o.sessions.base origin) (below (committed_parts o).next) ≡ is_held (committed_state o).sessions origin
-  committed_held origin = held_shown _ (committed_parts o) h.numbered origin

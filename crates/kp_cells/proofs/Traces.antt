@@ -1,12 +1,11 @@
 -- What a trace has of a part, before and after each change, and which numbers go out of use with a layer.
-use Rattle.std.proofs.Common.{◌≡◌, ℕ, zero, suc, ◌-◌, Bool, true, false, cond, nat_eq, ◌||◌, List, [], ◌∷◌, ◌++◌, take, drop, length, Option, Some, None, is_some, refl, ap, sym, ◌∙◌, subst, arith}
+use Rattle.std.proofs.Common.{◌≡◌, ℕ, zero, suc, ◌-◌, Bool, true, false, nat_eq, ◌||◌, List, [], ◌∷◌, ◌++◌, take, drop, length, Option, Some, None, refl, ap, sym, ◌∙◌, subst, arith}
 use Rattle.std.specs.Prelude.{unwrap_or}
-use Rattle.std.specs.List.{list_any}
 use Rattle.std.specs.Ordering.{nat_cmp, eq_by_cmp}
 use Rattle.std.specs.Cmp.{unsigned_tied, nat_eq_equiv}
-use Rattle.kp_layers.specs.Layering.{Layering, staged_of, first_layer, begun, written, undone, sealed, abandoned, front_committed, back_dropped, empty_layering}
+use Rattle.kp_layers.specs.Layering.{Layering, staged_of, first_layer, begun, written, undone, sealed, abandoned, front_committed, back_dropped}
 use Rattle.kp_layers.specs.Used.{is_written, is_used, last_layer}
-use Rattle.kp_layers.proofs.Used.{any-append, used_begun, used_written, used_sealed, used_undone, used_abandoned, used_front_committed, used_back_dropped, used_empty}
+use Rattle.kp_layers.proofs.Used.{any-append, used_begun, used_written, used_sealed, used_undone, used_abandoned, used_front_committed, used_back_dropped}
 use Rattle.std.specs.Cmp.{nat_cmp_total}
 use Rattle.kp_model.specs.declared.node.Acl.{Acl}
 use Rattle.kp_model.specs.declared.node.Meta.{Meta}

@@ -5,6 +5,5 @@ pub mod Naming
 pub mod Kin
 pub mod Held
 pub mod Listed
-pub mod Viewed
 pub mod Traced
 pub mod Sides

@@ -1,5 +1,5 @@
 -- Which paths a listing takes, and lists of keys in their order.
-use Rattle.std.specs.Prelude.{◌≡◌, ℕ, Bool, true, false, cond, List, [], ◌∷◌, ◌++◌, is_some, zero, suc, Option, Some, None}
+use Rattle.std.specs.Prelude.{◌≡◌, ℕ, Bool, true, false, cond, List, Option, Some, None}
 use Rattle.std.specs.List.{list_any}
 use Rattle.std.specs.List.Sorted.{IsStrictlySortedBy}
 use Rattle.std.specs.Option.{option_map_or, option_and_then}
@@ -10,9 +10,7 @@ use Rattle.std.specs.FinMap as fin
 use Rattle.std.specs.FinMap.{FinMap}
 use Rattle.kp_layers.specs.Layering.{Layering, latest_of}
 use Rattle.kp_model.specs.declared.node.Meta.{Meta}
-use Rattle.kp_model.specs.declared.session.Session.{Session}
-use Rattle.kp_model.specs.declared.session.Origin.{Origin}
-use Rattle.kp_model.specs.State.{Sessions, path_cmp, same_origin}
+use Rattle.kp_model.specs.State.{path_cmp}
 use Rattle.kp_cells.specs.Naming.{Naming}
 use Rattle.kp_cells.specs.Traced.{is_in}
 
@@ -56,16 +54,3 @@ is_the q r = option_map_or (bytes_eq q) r false
 pub record Lists {K : Type 0} (R : K → K → Ordering) (f : K → Bool) (keys : List K) : Type 0 where
   pub sorted : IsStrictlySortedBy R keys
   pub members : (q : K) → list_any (eq_by_cmp R q) keys ≡ f q
-
--- the numbers below n, ascending
-abbrev pub below : ℕ → List ℕ
-below zero = []
-below (suc n) = below n ++ n ∷ []
-
--- whether there is a session of this number
-abbrev pub is_there : Sessions → ℕ → Bool
-is_there sessions id = is_some (fin.get sessions id)
-
--- whether there is one that is held by this origin
-abbrev pub is_held_at : Sessions → Origin → ℕ → Bool
-is_held_at sessions origin id = option_map_or (λ (x : Session). same_origin x.holder origin) (fin.get sessions id) false

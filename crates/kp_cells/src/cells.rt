@@ -8,11 +8,12 @@ ghost use Rattle.kp_model.specs.Path.{is_well_formed, root};
 ghost use Rattle.kp_cells.specs.Overlays.{IsOpen, IsClosed, depth, all_begun, all_sealed, all_abandoned, all_undone, marks_of, all_committed, all_dropped, with_meta, with_content, with_acl, with_child, with_owned, with_owner, with_session, with_next, settled, root_parts, blank_overlays};
 ghost use Rattle.kp_model.specs.State.{meta_of, blank_node, open_acl};
 
+use crate::groups::ByHolder;
 use crate::names::Names;
 use crate::nodes::{Nodes, release};
 use crate::pair::{abandon_both, begin_four};
 use crate::trail::{Trail, begin_rest};
-use kp_layers::Layers;
+use kp_layers::{GroupedLayers, Layers};
 use kp_model::{Acl, Acls, Bytes, Meta, NoMemory, Session, Text};
 use std::alloc::Global;
 use std::marker::Model;
@@ -31,7 +32,7 @@ pub struct Cells {
     // the numbers of the paths that each layer wrote
     pub(crate) trail: Trail,
     pub(crate) nodes: Nodes,
-    pub(crate) sessions: Layers<Session>,
+    pub(crate) sessions: GroupedLayers<Session, ByHolder>,
     pub(crate) next: Layers<u64>,
     pub(crate) applied: u64,
 }
@@ -131,8 +132,8 @@ impl Cells {
         let contents = Layers::new(alloc)?;
         let acls = Layers::new(alloc)?;
         let children = Layers::new(alloc)?;
-        let owners = Layers::new(alloc)?;
-        let sessions = Layers::new(alloc)?;
+        let owners = GroupedLayers::new(alloc)?;
+        let sessions = GroupedLayers::new(alloc)?;
         let next = Layers::new(alloc)?;
         Ok(Cells {
             alloc,

@@ -4,6 +4,7 @@
 
 mod cells;
 mod change;
+mod groups;
 mod kin;
 mod listing;
 mod looks;

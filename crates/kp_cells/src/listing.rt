@@ -3,16 +3,17 @@ ghost use Rattle.std.specs.Prelude.{◌≡◌, ℕ, List, ◌||◌, map, option_
 ghost use Rattle.std.specs.BTreeSet.{contains};
 ghost use Rattle.std.specs.FinMap as fin;
 ghost use Rattle.std.specs.Str.{bytes_eq};
-ghost use Rattle.std.specs.List.{list_any};
+ghost use Rattle.std.specs.List.{filter, list_any};
 ghost use Rattle.kp_model.specs.Path as paths;
 ghost use Rattle.kp_model.specs.State.{path_cmp};
 ghost use Rattle.kp_cells.specs.Naming.{IsNaming};
-ghost use Rattle.kp_cells.specs.Listed.{side_of, taken as taken_of, takes, is_the, Lists, AreAmong, below, is_held_at};
+ghost use Rattle.kp_cells.specs.Listed.{side_of, taken as taken_of, takes, is_the, Lists, AreAmong};
+ghost use Rattle.kp_layers.specs.Grouped.{is_in};
 
 use crate::names::Names;
 use crate::pick::Pick;
-use kp_layers::Layers;
-use kp_model::{Meta, NoMemory, Origin, Paths, Session, Text};
+use kp_layers::{GroupedLayers, Grouping, Layers};
+use kp_model::{Meta, NoMemory, Paths, Text};
 use std::alloc::Global;
 use std::collections::BTreeSet;
 
@@ -122,7 +123,11 @@ pub fn list<P: Pick>(
 }
 
 /// The keys that the layers have, ascending: under all layers, or below them. Costs the keys in use.
-pub fn keys<V>(alloc: Global, layers: &Layers<V>, latest: bool) -> Result<Vec<u64>, NoMemory>
+pub fn keys<V, S: Grouping<V>>(
+    alloc: Global,
+    layers: &GroupedLayers<V, S>,
+    latest: bool,
+) -> Result<Vec<u64>, NoMemory>
     ensures { IfOk result (λ ks. ks.items ≡ fin.keys (side_of latest layers.now)) }
 {
     if latest {
@@ -143,24 +148,35 @@ pub fn names_of(alloc: Global, list: &Paths) -> Result<Paths, NoMemory>
     Ok(names)
 }
 
-// Whether the session of the number is held by this origin.
-fn is_holder(sessions: &Layers<Session>, latest: bool, id: u64, origin: &Origin) -> bool
-    ensures { result ≡ is_held_at (side_of latest sessions.now) origin.now id }
+/// The keys whose values are of the group, ascending: under all layers, or below them. Costs the keys
+/// of the group alone.
+pub fn keys_in<V, S: Grouping<V>>(
+    alloc: Global,
+    layers: &GroupedLayers<V, S>,
+    latest: bool,
+    group: S::Group,
+) -> Result<Vec<u64>, NoMemory>
+    ensures { IfOk result (λ ks. ks.items ≡ filter (is_in S.Group.eq S.group_of (side_of latest layers.now) group) (fin.keys (side_of latest layers.now))) }
 {
-    match look(sessions, latest, id) {
-        Some(session) => session.holder == *origin,
-        None => false,
+    if latest {
+        Ok(layers.latest_in(alloc, group)?)
+    } else {
+        Ok(layers.committed_in(alloc, group)?)
     }
 }
 
-/// Whether a session below the bound is held by this origin.
-pub fn has_holder(sessions: &Layers<Session>, latest: bool, bound: u64, origin: &Origin) -> bool
-    ensures { result ≡ list_any (is_held_at (side_of latest sessions.now) origin.now) (below bound) }
+/// Whether a key has a value of the group: under all layers, or below them. Costs at most the keys
+/// of the group.
+pub fn any_in<V, S: Grouping<V>>(
+    layers: &GroupedLayers<V, S>,
+    latest: bool,
+    group: S::Group,
+) -> bool
+    ensures { result ≡ list_any (is_in S.Group.eq S.group_of (side_of latest layers.now) group) (fin.keys (side_of latest layers.now)) }
 {
-    for id in 0..bound {
-        if is_holder(sessions, latest, id, origin) {
-            return true;
-        }
+    if latest {
+        layers.any_latest_in(group)
+    } else {
+        layers.any_committed_in(group)
     }
-    false
 }

@@ -7,11 +7,15 @@ ghost use Rattle.kp_cells.specs.Overlays.{latest_parts, committed_parts};
 
 use crate::cells::Cells;
 use crate::names::Names;
-use kp_layers::Layers;
+use kp_layers::{GroupedLayers, Grouping};
 use kp_model::{Acl, Meta, Session};
 
 /// What the layers have at the path under all layers.
-pub fn latest_at<'a, V>(names: &Names, layers: &'a Layers<V>, path: &str) -> Option<&'a V>
+pub fn latest_at<'a, V, S: Grouping<V>>(
+    names: &Names,
+    layers: &'a GroupedLayers<V, S>,
+    path: &str,
+) -> Option<&'a V>
     ensures { option_copied result ≡ option_and_then (map.get (latest_of layers.now)) (map.get names.now.numbers path.now) }
 {
     match names.get(path) {
@@ -21,7 +25,11 @@ pub fn latest_at<'a, V>(names: &Names, layers: &'a Layers<V>, path: &str) -> Opt
 }
 
 /// What the layers have at the path below all layers.
-pub fn committed_at<'a, V>(names: &Names, layers: &'a Layers<V>, path: &str) -> Option<&'a V>
+pub fn committed_at<'a, V, S: Grouping<V>>(
+    names: &Names,
+    layers: &'a GroupedLayers<V, S>,
+    path: &str,
+) -> Option<&'a V>
     ensures { option_copied result ≡ option_and_then (map.get layers.now.base) (map.get names.now.numbers path.now) }
 {
     match names.get(path) {

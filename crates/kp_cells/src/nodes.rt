@@ -4,8 +4,9 @@ ghost use Rattle.std.specs.FinMap as map;
 ghost use Rattle.kp_cells.specs.Naming.{IsNaming};
 ghost use Rattle.kp_cells.specs.Traced.{left, uses};
 
+use crate::groups::ByOwner;
 use crate::names::Names;
-use kp_layers::Layers;
+use kp_layers::{GroupedLayers, Layers};
 use kp_model::{Acls, Bytes, Meta};
 
 /// What is known of the nodes, part by part, under the numbers of their paths.
@@ -15,7 +16,7 @@ pub struct Nodes {
     pub contents: Layers<Bytes>,
     pub acls: Layers<Acls>,
     pub children: Layers<()>,
-    pub owners: Layers<u64>,
+    pub owners: GroupedLayers<u64, ByOwner>,
 }
 
 impl Nodes {

@@ -2,13 +2,13 @@
 ghost use Rattle.std.specs.Prelude.{◌≡◌, None, IsSome, OnOk, OnErr};
 ghost use Rattle.kp_layers.specs.Layering.{begun, abandoned};
 
-use kp_layers::Layers;
+use kp_layers::{GroupedLayers, Grouping, Layers};
 use kp_model::NoMemory;
 
 /// Opens a layer in both parts, or in none of them.
-pub fn begin_both<V: Drop, W: Drop>(
-    one: &mut Layers<V>,
-    other: &mut Layers<W>,
+pub fn begin_both<V: Drop, W: Drop, S: Grouping<V>, T: Grouping<W>>(
+    one: &mut GroupedLayers<V, S>,
+    other: &mut GroupedLayers<W, T>,
 ) -> Result<(), NoMemory>
     requires one { one.old.staged ≡ None }
     requires other { other.old.staged ≡ None }
@@ -26,7 +26,10 @@ pub fn begin_both<V: Drop, W: Drop>(
 }
 
 /// Takes the open layers of both parts away.
-pub fn abandon_both<V: Drop, W: Drop>(one: &mut Layers<V>, other: &mut Layers<W>)
+pub fn abandon_both<V: Drop, W: Drop, S: Grouping<V>, T: Grouping<W>>(
+    one: &mut GroupedLayers<V, S>,
+    other: &mut GroupedLayers<W, T>,
+)
     requires one { IsSome one.old.staged }
     requires other { IsSome other.old.staged }
     ensures one { one.new ≡ abandoned one.old }
@@ -37,9 +40,9 @@ pub fn abandon_both<V: Drop, W: Drop>(one: &mut Layers<V>, other: &mut Layers<W>
 }
 
 /// Opens a layer in all three parts, or in none of them.
-pub fn begin_three<V: Drop, W: Drop, X: Drop>(
-    one: &mut Layers<V>,
-    other: &mut Layers<W>,
+pub fn begin_three<V: Drop, W: Drop, X: Drop, S: Grouping<V>, T: Grouping<W>>(
+    one: &mut GroupedLayers<V, S>,
+    other: &mut GroupedLayers<W, T>,
     third: &mut Layers<X>,
 ) -> Result<(), NoMemory>
     requires one { one.old.staged ≡ None }

@@ -7,7 +7,7 @@ ghost use Rattle.kp_layers.specs.Used.{last_layer};
 ghost use Rattle.kp_cells.specs.Traced.{no_trace, latest_in, is_in};
 
 use crate::pair::begin_three;
-use kp_layers::Layers;
+use kp_layers::{GroupedLayers, Grouping, Layers};
 use kp_model::NoMemory;
 use std::alloc::Global;
 use std::collections::VecDeque;
@@ -160,9 +160,9 @@ impl Trail {
 }
 
 /// Opens a layer in all three parts and in the trail, or in none of them.
-pub fn begin_rest<V: Drop, W: Drop, X: Drop>(
-    one: &mut Layers<V>,
-    other: &mut Layers<W>,
+pub fn begin_rest<V: Drop, W: Drop, X: Drop, S: Grouping<V>, T: Grouping<W>>(
+    one: &mut GroupedLayers<V, S>,
+    other: &mut GroupedLayers<W, T>,
     third: &mut Layers<X>,
     trail: &mut Trail,
 ) -> Result<(), NoMemory>

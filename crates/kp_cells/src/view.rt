@@ -1,16 +1,16 @@
 //! The two views of the tree and its sessions.
 ghost use Rattle.std.specs.Prelude.{◌≡◌, ◌==◌, false, IfOk};
 ghost use Rattle.std.specs.FinMap as map;
-ghost use Rattle.std.specs.List.{filter, list_any};
-ghost use Rattle.kp_model.specs.State.{is_child};
-ghost use Rattle.kp_cells.specs.Listed.{side_of, passes, below, is_held_at};
+ghost use Rattle.std.specs.List.{filter};
+ghost use Rattle.kp_model.specs.State.{is_child, is_held};
+ghost use Rattle.kp_cells.specs.Listed.{side_of, passes};
 ghost use Rattle.kp_cells.specs.Overlays.{latest_parts, latest_state, committed_parts, committed_state};
 ghost use Rattle.kp_cells.specs.Parts.{FitTogether};
 ghost use Rattle.kp_cells.specs.Sides.{parts_at};
-ghost use Rattle.kp_cells.specs.Viewed.{AreNumbered};
 
 use crate::cells::Cells;
-use crate::listing::{has_holder, keys, list, names_of};
+use crate::groups::Holder;
+use crate::listing::{any_in, keys, keys_in, list, names_of};
 use crate::pick::{ChildOf, Every, OwnedBy, Pick};
 use kp_model::{Acl, Meta, NoMemory, Origin, Paths, Session, View};
 use std::alloc::Global;
@@ -20,7 +20,6 @@ impl Cells {
     /// The state under all layers, the open one last.
     pub fn latest(&self) -> LatestView<'_>
         requires fits { FitTogether (latest_parts self.now) }
-        requires numbered { AreNumbered (latest_parts self.now) }
         ensures { result ≡ latest_state self.now }
     {
         LatestView { cells: self }
@@ -29,14 +28,18 @@ impl Cells {
     /// The state below all layers.
     pub fn committed(&self) -> CommittedView<'_>
         requires fits { FitTogether (committed_parts self.now) }
-        requires numbered { AreNumbered (committed_parts self.now) }
         ensures { result ≡ committed_state self.now }
     {
         CommittedView { cells: self }
     }
 
     // The paths of the nodes that are picked, ascending. Costs as much as there are nodes.
-    fn picked<P: Pick>(&self, alloc: Global, latest: bool, pick: &P) -> Result<Paths, NoMemory>
+    pub(crate) fn picked<P: Pick>(
+        &self,
+        alloc: Global,
+        latest: bool,
+        pick: &P,
+    ) -> Result<Paths, NoMemory>
         ensures { IfOk result (λ paths. paths ≡ filter (passes (P.test pick.now) (side_of latest self.now.metas)) (map.keys (side_of latest self.now.metas))) }
     {
         let numbers = keys(alloc, &self.nodes.metas, latest)?;
@@ -51,7 +54,12 @@ impl Cells {
     }
 
     // The paths of the children of the path, ascending.
-    fn children(&self, alloc: Global, latest: bool, path: &str) -> Result<Paths, NoMemory>
+    pub(crate) fn children(
+        &self,
+        alloc: Global,
+        latest: bool,
+        path: &str,
+    ) -> Result<Paths, NoMemory>
         ensures { IfOk result (λ paths. paths ≡ filter (passes (λ q m. is_child path.now q) (side_of latest self.now.metas)) (map.keys (side_of latest self.now.metas))) }
     {
         let numbers = self.names.children(alloc, path)?;
@@ -71,7 +79,7 @@ impl Cells {
         requires session { (session == 0) ≡ false }
         ensures { IfOk result (λ paths. paths ≡ filter (passes (λ q m. m.owner == session) (side_of latest self.now.metas)) (map.keys (side_of latest self.now.metas))) }
     {
-        let numbers = keys(alloc, &self.nodes.owners, latest)?;
+        let numbers = keys_in(alloc, &self.nodes.owners, latest, session)?;
         list(
             alloc,
             &self.names,
@@ -95,25 +103,26 @@ impl Cells {
     }
 
     // The numbers of the sessions, ascending.
-    fn session_ids(&self, alloc: Global, latest: bool) -> Result<Vec<u64>, NoMemory>
+    pub(crate) fn session_ids(&self, alloc: Global, latest: bool) -> Result<Vec<u64>, NoMemory>
         ensures { IfOk result (λ ids. ids.items ≡ map.keys (side_of latest self.now.sessions)) }
     {
         keys(alloc, &self.sessions, latest)
     }
 
-    // Whether a session below the bound is held by this origin.
-    fn holds(&self, latest: bool, bound: u64, origin: &Origin) -> bool
-        ensures { result ≡ list_any (is_held_at (side_of latest self.now.sessions) origin.now) (below bound) }
+    // Whether a session is held by this origin.
+    fn holds(&self, latest: bool, origin: &Origin) -> bool
+        ensures { result ≡ is_held (side_of latest self.now.sessions) origin.now }
     {
-        has_holder(&self.sessions, latest, bound, origin)
+        any_in(&self.sessions, latest, Holder::of(origin))
     }
 }
 
 /// The state under all layers, the open one last.
 ///
-/// The look-ups that lend take no memory. `kids` costs the children of the path in either view and
-/// in the layers, `sessions` and `owned` what the layers hold of sessions and of owners, and `paths`
-/// and `owned` of no session all paths that are in use.
+/// The look-ups that lend take no memory, and so does `holds`. `kids` costs the children of the path
+/// and `owned` the nodes of the session, in either view and in the layers; `holds` at most the
+/// sessions of the holder; `sessions` and `paths` the sessions and the paths in use, and so does
+/// `owned` of no session.
 #[derive(Drop)]
 pub struct LatestView<'a> {
     cells: &'a Cells,
@@ -122,7 +131,7 @@ pub struct LatestView<'a> {
 impl<'a> Model for LatestView<'a> {
     ghost use Rattle.kp_model.specs.State.{State};
     ghost use Rattle.kp_model.specs.Codes.{state_code};
-    ghost use Rattle.kp_cells.specs.Viewed.{AreShown};
+    ghost use Rattle.kp_cells.specs.Parts.{FitTogether};
     ghost use Rattle.kp_cells.specs.Overlays.{latest_parts, latest_state};
 
     ghost Value = { State };
@@ -131,7 +140,7 @@ impl<'a> Model for LatestView<'a> {
 
     ghost view = { λ v. latest_state v.cells.now };
 
-    ghost invariant = { λ v. AreShown (latest_parts v.cells.now) };
+    ghost invariant = { λ v. FitTogether (latest_parts v.cells.now) };
 }
 
 impl View for LatestView<'_> {
@@ -157,9 +166,9 @@ impl View for LatestView<'_> {
         self.cells.latest_session(id)
     }
 
-    #[tactic(auto, using(crate::proofs::Shown::latest_held))]
+    #[tactic(auto, unfolding(crate::specs::Parts::whole))]
     fn holds(&self, origin: &Origin) -> bool {
-        self.cells.holds(true, self.cells.latest_next(), origin)
+        self.cells.holds(true, origin)
     }
 
     #[tactic(auto, unfolding(crate::specs::Parts::whole))]
@@ -190,9 +199,10 @@ impl View for LatestView<'_> {
 
 /// The state below all layers.
 ///
-/// The look-ups that lend take no memory. `kids` costs the children of the path in either view and
-/// in the layers, `sessions` and `owned` what the layers hold of sessions and of owners, and `paths`
-/// and `owned` of no session all paths that are in use.
+/// The look-ups that lend take no memory, and so does `holds`. `kids` costs the children of the path
+/// and `owned` the nodes of the session, in either view and in the layers; `holds` at most the
+/// sessions of the holder; `sessions` and `paths` the sessions and the paths in use, and so does
+/// `owned` of no session.
 #[derive(Drop)]
 pub struct CommittedView<'a> {
     cells: &'a Cells,
@@ -201,7 +211,7 @@ pub struct CommittedView<'a> {
 impl<'a> Model for CommittedView<'a> {
     ghost use Rattle.kp_model.specs.State.{State};
     ghost use Rattle.kp_model.specs.Codes.{state_code};
-    ghost use Rattle.kp_cells.specs.Viewed.{AreShown};
+    ghost use Rattle.kp_cells.specs.Parts.{FitTogether};
     ghost use Rattle.kp_cells.specs.Overlays.{committed_parts, committed_state};
 
     ghost Value = { State };
@@ -210,7 +220,7 @@ impl<'a> Model for CommittedView<'a> {
 
     ghost view = { λ v. committed_state v.cells.now };
 
-    ghost invariant = { λ v. AreShown (committed_parts v.cells.now) };
+    ghost invariant = { λ v. FitTogether (committed_parts v.cells.now) };
 }
 
 impl View for CommittedView<'_> {
@@ -236,9 +246,9 @@ impl View for CommittedView<'_> {
         self.cells.committed_session(id)
     }
 
-    #[tactic(auto, using(crate::proofs::Shown::committed_held))]
+    #[tactic(auto, unfolding(crate::specs::Parts::whole))]
     fn holds(&self, origin: &Origin) -> bool {
-        self.cells.holds(false, self.cells.committed_next(), origin)
+        self.cells.holds(false, origin)
     }
 
     #[tactic(auto, unfolding(crate::specs::Parts::whole))]

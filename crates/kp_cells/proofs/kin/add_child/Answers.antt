@@ -1,9 +1,9 @@
-use Rattle.std.proofs.Common.{◌≡◌, ℕ, Bool, List, ap, sym, ◌∙◌, cond, true, false, nat_eq, ◌||◌, Some, rules}
+use Rattle.std.proofs.Common.{◌≡◌, ap, ◌∙◌, true, nat_eq, ◌||◌, Some, rules}
 use Rattle.std.specs.Ordering.{nat_cmp, eq_by_cmp}
 use Rattle.std.specs.BTreeSet.{contains}
 use Rattle.std.specs.List.{list_any}
 use Rattle.std.proofs.lemmas.Map.Text.{hash_map_updates_text}
-use Rattle.kp_cells.specs.Kin.{kid_in, set_at, has_one, filled_in}
+use Rattle.kp_cells.specs.Kin.{kid_in, has_one, filled_in}
 use Rattle.kp_cells.proofs.Named.{on_err}
 use Rattle.kp_cells.proofs.Sets.{put_in, has_some, itself, kids_joined, kids_same, filled_still}
 use Rattle.kp_cells.proofs.kin.add_child.Goals as goal

@@ -1,4 +1,4 @@
-use Rattle.std.proofs.Common.{◌≡◌, ℕ, ap, sym, ◌∙◌, ◌&&◌, nat_eq, Some, rules}
+use Rattle.std.proofs.Common.{ap, ◌∙◌, ◌&&◌, nat_eq, Some, rules}
 use Rattle.std.specs.Prelude.{not}
 use Rattle.std.specs.Str.{bytes_eq}
 use Rattle.std.specs.Ordering.{nat_cmp}

@@ -1,4 +1,4 @@
-use Rattle.std.proofs.Common.{◌≡◌, ◌<◌, ◌≤◌, ℕ, List, length, take, sym, subst, rules}
+use Rattle.std.proofs.Common.{◌≡◌, take, sym, subst, rules}
 use Rattle.std.specs.Prelude.{slice_index}
 use Rattle.std.specs.BTreeSet.{contains}
 use Rattle.kp_model.specs.State.{path_cmp}

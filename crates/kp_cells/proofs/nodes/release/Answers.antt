@@ -1,4 +1,4 @@
-use Rattle.std.proofs.Common.{◌≡◌, ◌<◌, ℕ, Bool, List, [], ◌∷◌, ◌++◌, ◌+◌, length, take, ap, sym, ◌∙◌, arith, rules}
+use Rattle.std.proofs.Common.{ℕ, Bool, [], ◌∷◌, take, ap, sym, ◌∙◌, rules}
 use Rattle.std.specs.FinMap.{get}
 use Rattle.std.specs.Prelude.{slice_index}
 use Rattle.kp_cells.specs.Traced.{left, uses}

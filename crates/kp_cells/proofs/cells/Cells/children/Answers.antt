@@ -1,4 +1,4 @@
-use Rattle.std.proofs.Common.{◌≡◌, ap, sym, ◌∙◌, subst}
+use Rattle.std.proofs.Common.{ap, sym, ◌∙◌, subst}
 use Rattle.std.specs.List.{filter}
 use Rattle.std.specs.FinMap as fin
 use Rattle.kp_model.specs.State.{is_child}

@@ -1,4 +1,4 @@
-use Rattle.std.proofs.Common.{◌≡◌, ℕ, List, ap, sym, ◌∙◌, length, is_some}
+use Rattle.std.proofs.Common.{◌≡◌, ap, sym, ◌∙◌, length, is_some}
 use Rattle.std.specs.Prelude.{map}
 use Rattle.kp_layers.specs.Layering.{first_layer}
 use Rattle.kp_cells.specs.Naming.{writes_by_path}

@@ -1,4 +1,4 @@
-use Rattle.std.proofs.Common.{◌≡◌, ℕ, List, ap, sym, ◌∙◌, is_some}
+use Rattle.std.proofs.Common.{◌≡◌, ap, sym, ◌∙◌, is_some}
 use Rattle.kp_layers.specs.Layering.{back_dropped}
 use Rattle.kp_layers.specs.Used.{last_layer}
 use Rattle.kp_cells.specs.Traced.{uses}

@@ -1,7 +1,8 @@
-use Rattle.std.proofs.Common.{◌≡◌, ap, sym, ◌∙◌, subst}
+use Rattle.std.proofs.Common.{◌≡◌, ℕ, nat_eq, Some, ap, sym, ◌∙◌, subst}
 use Rattle.std.specs.Prelude.{◌==◌}
 use Rattle.std.specs.List.{filter}
 use Rattle.std.specs.FinMap as fin
+use Rattle.kp_layers.specs.Grouped.{is_in}
 use Rattle.kp_cells.specs.Listed.{Test, side_of, passes, AreAmong}
 use Rattle.kp_cells.specs.Parts.{FitTogether}
 use Rattle.kp_cells.specs.Sides.{parts_at}
@@ -14,7 +15,7 @@ list-requires-clause-all c =
     let i = c.self.inside in
     let h = c.self.invariant.held in
     let test : Test = λ _ m. m.owner == c.args.session in
-    let are : c.as_slice.result.now ≡ fin.keys (side_of c.args.latest i.nodes.owners) = c.as_slice.ensures.value ∙ c.in_ok-numbers.ensures in
+    let are : c.as_slice.result.now ≡ filter (is_in nat_eq (λ (owner : ℕ). Some owner) (side_of c.args.latest i.nodes.owners) c.args.session) (fin.keys (side_of c.args.latest i.nodes.owners)) = c.as_slice.ensures.value ∙ c.in_ok-numbers.ensures in
     let fits = subst (λ o. FitTogether (parts_at c.args.latest o)) (sym c.self.view_is) c.requires.fits in
     subst (AreAmong test i.names (side_of c.args.latest i.nodes.metas)) (sym are)
     (owned_among i.names h.naming i.nodes.metas i.nodes.contents i.nodes.acls i.nodes.children i.nodes.owners i.sessions i.next i.applied h.metas_named h.owners_named c.args.latest fits c.args.session c.requires.session)

@@ -1,4 +1,4 @@
-use Rattle.std.proofs.Common.{◌≡◌, ap, sym, ◌∙◌, [], ◌∷◌, IsSome, is_some, subst, refl}
+use Rattle.std.proofs.Common.{ap, sym, ◌∙◌, [], ◌∷◌, IsSome, is_some, subst, refl}
 use Rattle.kp_layers.specs.Layering.{written}
 use Rattle.kp_layers.specs.Used.{is_used}
 use Rattle.kp_cells.specs.Naming.{writes_by_path}

@@ -1,11 +1,11 @@
-use Rattle.std.proofs.Common.{◌≡◌, ap, sym, ◌∙◌, [], ◌∷◌, IsSome, is_some, subst, refl}
+use Rattle.std.proofs.Common.{ap, sym, ◌∙◌, [], ◌∷◌, IsSome, is_some, subst, refl}
 use Rattle.kp_layers.specs.Layering.{written}
 use Rattle.kp_layers.specs.Used.{is_used}
 use Rattle.kp_cells.specs.Naming.{writes_by_path}
 use Rattle.kp_cells.specs.Traced.{uses, IsTraced}
 use Rattle.kp_cells.proofs.Named.{is_error, not_err}
 use Rattle.kp_cells.proofs.Together.{after_give, after_metas, is_open}
-use Rattle.kp_cells.proofs.Released.{held_still, overlays_still, left_true, right_true}
+use Rattle.kp_cells.proofs.Released.{held_still, overlays_still, left_true}
 use Rattle.kp_cells.proofs.Traces.{traced_same, traced_more, traced_written, keeps_same, keeps_written, writes_use, all_kept}
 use Rattle.kp_cells.proofs.Kept.{used_then, used_in_vain}
 use Rattle.kp_cells.proofs.cells.Cells.stage_meta.Goals as goal

@@ -1,5 +1,5 @@
 use Rattle.std.proofs.Common.{◌≡◌, ℕ, List, ap, sym, ◌∙◌, subst, None, Some, nat_eq, cond, true, false}
-use Rattle.std.specs.Prelude.{is_err, string_bytes}
+use Rattle.std.specs.Prelude.{is_err}
 use Rattle.std.specs.Str.{bytes_eq}
 use Rattle.std.specs.FinMap.{get}
 use Rattle.kp_cells.specs.Naming.{Naming, numbers_in, texts_in}

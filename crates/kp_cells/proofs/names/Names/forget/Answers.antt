@@ -1,6 +1,5 @@
-use Rattle.std.proofs.Common.{◌≡◌, ℕ, List, ap, sym, ◌∙◌, None, Some, nat_eq, cond}
+use Rattle.std.proofs.Common.{◌≡◌, ℕ, List, ap, sym, ◌∙◌, Some, nat_eq}
 use Rattle.std.specs.Prelude.{not, ◌&&◌}
-use Rattle.std.specs.Str.{bytes_eq}
 use Rattle.std.specs.FinMap.{get}
 use Rattle.kp_model.specs.State.{is_child}
 use Rattle.kp_cells.specs.Naming.{Naming, numbers_in, texts_in}

@@ -1,11 +1,9 @@
 -- The views of a storage.
-use Rattle.std.proofs.Common.{◌≡◌, ℕ, length, sym, subst, ap, ◌∙◌}
-use Rattle.std.specs.List.{All}
 use Rattle.kp_model.specs.LogEntry.{LogEntry}
 use Rattle.kp_model.specs.Store.{after}
 use Rattle.kp_model.specs.declared.reply.Committed.{Committed}
 use Rattle.std.specs.Prelude.{List}
-use Rattle.kp_cells.specs.Parts.{Parts, parts_of, FitTogether}
+use Rattle.kp_cells.specs.Parts.{FitTogether}
 use Rattle.kp_cells.specs.Overlays.{Overlays, committed_parts, latest_parts, committed_state}
 use Rattle.kp_storage.specs.Kept.{Keeps}
 use Rattle.kp_storage.proofs.Whole.{fit_together}

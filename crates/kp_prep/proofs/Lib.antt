@@ -8,4 +8,3 @@ pub mod Within
 pub mod Changes
 pub mod Plans
 pub mod Carried
-pub mod Numbered

@@ -1,5 +1,5 @@
 -- What a storage keeps, through its calls.
-use Rattle.std.proofs.Common.{◌≡◌, ℕ, zero, suc, ◌+◌, ◌-◌, ◌<◌, ◌≤◌, ◌⊎◌, inl, inr, ⊎_elim, min, List, [], ◌∷◌, ◌++◌, length, take, drop, get_or, Option, Some, None, IsTrue, refl, sym, ap, subst, ◌∙◌, arith, length-append, length-take-le, take-take, take_all}
+use Rattle.std.proofs.Common.{◌≡◌, ℕ, zero, suc, ◌+◌, ◌-◌, ◌<◌, ◌≤◌, ◌⊎◌, inl, inr, ⊎_elim, List, [], ◌∷◌, ◌++◌, length, take, drop, refl, sym, ap, subst, ◌∙◌, arith, length-append, length-take-le, take-take, take_all}
 use Rattle.std.proofs.lemmas.List.{take-append-le}
 use Rattle.std.specs.List.{All}
 use Rattle.std.proofs.lemmas.List.Elements.{All-append, All-take, All-drop}
@@ -14,10 +14,10 @@ use Rattle.kp_model.specs.declared.reply.Committed.{Committed}
 use Rattle.kp_model.proofs.Applied.{applied-apply, applied-after}
 use Rattle.kp_model.proofs.GoodEmpty.{empty_sound}
 use Rattle.kp_model.proofs.GoodSteps.{apply_sound, after_sound}
-use Rattle.kp_cells.specs.Parts.{Parts, parts_of, whole, FitTogether}
+use Rattle.kp_cells.specs.Parts.{parts_of, whole, FitTogether}
 use Rattle.kp_cells.specs.Overlays.{Overlays, depth, committed_parts, latest_parts, committed_state, latest_state, parts_under, applied_after, root_parts, settled, all_begun, all_sealed, all_committed, all_dropped}
 use Rattle.kp_model.specs.Built.{IsTaken}
-use Rattle.kp_storage.specs.Kept.{answers_of, HasLayers, IsLayered, StandsFor, Keeps, store}
+use Rattle.kp_storage.specs.Kept.{answers_of, IsLayered, Keeps, store}
 use Rattle.kp_model.specs.Touched.{touched}
 use Rattle.kp_prep.specs.Touching.{AreWithin, staged_keys}
 use Rattle.kp_storage.proofs.LayerKeys.{touches_none, touches_front, touches_back, touches_more}

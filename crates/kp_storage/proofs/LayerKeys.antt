@@ -1,5 +1,5 @@
 -- The keys that layers write at, through what is done to the layers.
-use Rattle.std.proofs.Common.{◌≡◌, ℕ, zero, suc, ◌+◌, ◌-◌, ◌<◌, ◌≤◌, ◌⊎◌, inl, inr, ⊎_elim, List, [], ◌∷◌, ◌++◌, take, drop, length, slice_get, Option, Some, None, refl, ap, sym, subst, ◌∙◌, arith, length-append, length-take-le, take-take}
+use Rattle.std.proofs.Common.{◌≡◌, ℕ, zero, suc, ◌-◌, ◌<◌, ◌≤◌, ◌⊎◌, inl, inr, ⊎_elim, List, [], ◌∷◌, ◌++◌, take, drop, length, slice_get, Some, refl, ap, sym, subst, ◌∙◌, arith, length-append, length-take-le, take-take}
 use Rattle.std.proofs.lemmas.List.{take-append-le}
 use Rattle.std.proofs.lemmas.Option.{none-some, same_Some, slice_get_within}
 use Rattle.std.specs.declared.cmp.Ordering.{Ordering}
@@ -11,7 +11,7 @@ use Rattle.kp_model.specs.Step.{apply}
 use Rattle.kp_model.specs.Store.{after}
 use Rattle.kp_model.specs.Touched.{touched}
 use Rattle.kp_cells.specs.Overlays.{Overlays, committed_state, all_begun, all_sealed, all_committed, all_dropped}
-use Rattle.kp_prep.specs.Touching.{Keys, AreWithin, keys_of, layer, layer_keys, staged_keys}
+use Rattle.kp_prep.specs.Touching.{AreWithin, keys_of, layer, layer_keys, staged_keys}
 use Rattle.kp_storage.specs.Kept.{HasLayers, IsLayered, TouchesOnly}
 
 module _ {A : Type 0} where

@@ -1,5 +1,5 @@
 -- The parts under the layers, through what is done to the layers.
-use Rattle.std.proofs.Common.{◌≡◌, ℕ, zero, suc, ◌+◌, ◌-◌, ◌≤◌, List, [], ◌∷◌, ◌++◌, take, drop, length, Option, None, refl, ap, sym, ◌∙◌, arith, length-append, length-drop, length-take-le, take-take, take_all}
+use Rattle.std.proofs.Common.{◌≡◌, ℕ, zero, suc, ◌+◌, ◌-◌, ◌≤◌, List, [], ◌∷◌, take, drop, length, Option, refl, ap, sym, ◌∙◌, arith, length-append, length-drop, length-take-le, take-take, take_all}
 use Rattle.std.proofs.lemmas.List.{take-append-le}
 use Rattle.std.specs.declared.cmp.Ordering.{Ordering}
 use Rattle.std.specs.FinMap.{FinMap}
@@ -7,7 +7,6 @@ use Rattle.std.specs.Prelude.{unwrap_or}
 use Rattle.kp_layers.specs.Overlay.{overlay}
 use Rattle.kp_layers.specs.Layering.{Layering, latest_of, staged_of, overlay_all, first_layer, begun, sealed, front_committed, back_dropped}
 use Rattle.kp_layers.proofs.Latest.{latest_sealed}
-use Rattle.kp_cells.specs.Parts.{Parts}
 use Rattle.kp_cells.specs.Overlays.{Overlays, under, parts_under, latest_parts, committed_parts, next_in, all_begun, all_sealed, all_committed, all_dropped}
 use Rattle.kp_storage.specs.Kept.{HasLayers, IsLayered}
 

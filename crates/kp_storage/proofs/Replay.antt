@@ -1,13 +1,12 @@
 -- Replays and answers, entry by entry.
-use Rattle.std.proofs.Common.{◌≡◌, ℕ, zero, suc, ◌+◌, ◌-◌, ◌<◌, ◌≤◌, List, [], ◌∷◌, ◌++◌, length, take, drop, take_all, take-take, length-take-le, get_or, slice_get, Bool, true, false, true≢false, cond, nat_le, Bor, Option, Some, None, refl, sym, ap, ◌∙◌, arith}
+use Rattle.std.proofs.Common.{◌≡◌, ℕ, zero, suc, ◌+◌, ◌-◌, ◌<◌, ◌≤◌, List, [], ◌∷◌, ◌++◌, length, take, take_all, take-take, length-take-le, get_or, slice_get, false, true≢false, cond, nat_le, Bor, Option, Some, None, refl, sym, ap, ◌∙◌, arith}
 use Rattle.std.specs.Option.{option_map, option_copied}
 use Rattle.std.specs.Prelude.{IfSome, IsSome}
 use Rattle.std.proofs.lemmas.Bool.Decides.{nat_tests}
 use Rattle.kp_model.specs.State.{State}
 use Rattle.kp_model.specs.LogEntry.{LogEntry}
 use Rattle.kp_model.specs.Step.{apply, Outcome}
-use Rattle.kp_model.specs.Store.{Store, after, outcome_in, committed_as, commit_answer, commit_leaves, kept, last, truncated}
-use Rattle.kp_model.specs.declared.reply.Reply.{Reply}
+use Rattle.kp_model.specs.Store.{Store, after, outcome_in, committed_as, commit_answer, commit_leaves, kept, truncated}
 use Rattle.kp_model.specs.declared.reply.Committed.{Committed}
 use Rattle.kp_model.proofs.Applied.{applied-apply}
 use Rattle.kp_storage.specs.Kept.{answers_of}

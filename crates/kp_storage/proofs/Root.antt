@@ -4,17 +4,17 @@ use Rattle.std.specs.Prelude.{◌==◌, map, unwrap_or}
 use Rattle.std.specs.List.{filter}
 use Rattle.std.specs.Option.{option_map}
 use Rattle.std.specs.Str.{bytes_eq}
-use Rattle.std.specs.Ordering.{nat_cmp, eq_by_cmp}
+use Rattle.std.specs.Ordering.{eq_by_cmp}
 use Rattle.std.specs.Cmp.{nat_cmp_total}
 use Rattle.std.specs.Cmp.Lexicographic.{nat_list_cmp_total}
 use Rattle.std.specs.FinMap as map
-use Rattle.std.specs.FinMap.{FinMap, put}
+use Rattle.std.specs.FinMap.{put}
 use Rattle.kp_model.specs.declared.node.Node.{Node}
 use Rattle.kp_model.specs.Path.{root}
 use Rattle.kp_model.specs.State.{Nodes, path_cmp, blank_node, children, is_child, stat, meta_of, empty}
 use Rattle.kp_model.proofs.GoodParts.{path_cmp-IsAntisymmetric}
 use Rattle.kp_cells.specs.Mapped.{mapped, kept, chosen}
-use Rattle.kp_cells.specs.Parts.{Parts, parts_of}
+use Rattle.kp_cells.specs.Parts.{parts_of}
 use Rattle.kp_cells.specs.Overlays.{root_parts, next_in}
 use Rattle.kp_cells.proofs.Maps.{tied, passing, picked, get-mapped, get-kept, chosen-none}
 

@@ -1,4 +1,4 @@
-use Rattle.std.proofs.Common.{◌≡◌, ◌<◌, ◌≤◌, ◌-◌, length, ap, ◌∙◌, arith}
+use Rattle.std.proofs.Common.{◌-◌, ap, ◌∙◌, arith}
 use Rattle.kp_model.specs.Store.{Store}
 use Rattle.kp_storage.specs.Kept.{answers_of}
 use Rattle.kp_storage.proofs.Replay.{kept_none, kept_some}

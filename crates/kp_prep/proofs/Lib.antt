@@ -9,3 +9,4 @@ pub mod Changes
 pub mod Plans
 pub mod Carried
 pub mod Numbered
+pub mod Root

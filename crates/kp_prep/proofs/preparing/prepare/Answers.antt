@@ -5,12 +5,8 @@ use Rattle.kp_model.specs.Touched.{touched}
 use Rattle.kp_cells.specs.Overlays.{latest_parts}
 use Rattle.kp_cells.specs.Parts.{parts_of}
 use Rattle.kp_prep.proofs.Carried.{stands, fitting}
-use Rattle.kp_prep.proofs.Numbered.{numbered}
 use Rattle.kp_prep.proofs.Within.{within}
 use Rattle.kp_prep.proofs.preparing.prepare.Goals as goal
-
-pub latest-requires-clause-numbered : goal.latest-requires-clause-numbered
-latest-requires-clause-numbered c = numbered c.args.cells.now c.requires.sound
 
 pub returns-in-Ok-clause-stands : goal.returns-in-Ok-clause-stands
 returns-in-Ok-clause-stands c =

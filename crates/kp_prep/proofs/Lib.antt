@@ -8,3 +8,4 @@ pub mod Within
 pub mod Changes
 pub mod Plans
 pub mod Carried
+pub mod Root

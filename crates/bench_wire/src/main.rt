@@ -4,12 +4,15 @@
 
 use anyhow::Result;
 use kp_model::{Bytes, Items, NoMemory, Text};
-use kp_wire::{Request, Stat, WireAcl, WireAsk, WireReply, read_request, write_reply, write_request};
+use kp_wire::{
+    Request, Stat, WireAcl, WireAsk, WireReply, read_request, write_reply, write_request,
+};
 use std::alloc::Global;
 use std::env;
 
 /// The path of each frame, and the length of its data.
 const PATH: &str = "/clickhouse/tables/01/replicas/r1";
+
 const DATA: usize = 100;
 
 fn main(rt: HostRuntime) -> Result<()> {
@@ -85,19 +88,29 @@ fn ask(alloc: Global, kind: &Option<String>) -> Result<WireAsk, NoMemory> {
     Ok(WireAsk::GetData { path, watch: false })
 }
 
-// Reads a request over and over, and sums up its numbers.
-fn read_frames(alloc: Global, kind: &Option<String>, rounds: u64) -> Result<u64, NoMemory> {
+// The packet of a request.
+fn packet(alloc: Global, kind: &Option<String>) -> Result<Bytes, NoMemory> {
     let request = Request {
         xid: 7,
         ask: ask(alloc, kind)?,
     };
-    let packet = write_request(alloc, &request)?;
+    write_request(alloc, &request)
+}
+
+// Reads a request, and tells the length of its path.
+fn read_frame(alloc: Global, frame: &[u8]) -> Result<u64, NoMemory> {
+    match read_request(alloc, frame) {
+        Ok(request) => Ok(path_len(&request)),
+        Err(_) => Err(NoMemory),
+    }
+}
+
+// Reads a request over and over, and sums up the lengths of its paths.
+fn read_frames(alloc: Global, kind: &Option<String>, rounds: u64) -> Result<u64, NoMemory> {
+    let packet = packet(alloc, kind)?;
     let mut sum: u64 = 0;
     for _round in 0..rounds {
-        let Ok(request) = read_request(alloc, packet.as_slice()) else {
-            return Err(NoMemory);
-        };
-        sum = sum.wrapping_add(path_len(&request));
+        sum = sum.wrapping_add(read_frame(alloc, packet.as_slice())?);
     }
     Ok(sum)
 }
@@ -144,13 +157,18 @@ fn reply(alloc: Global, kind: &Option<String>) -> Result<WireReply, NoMemory> {
     Ok(WireReply::Data(data(alloc)?, numbers()))
 }
 
-// Writes a reply over and over, and sums up the lengths of the packets.
+// Writes a reply, and tells the length of its packet.
+fn write_frame(alloc: Global, reply: &WireReply) -> Result<u64, NoMemory> {
+    let packet = write_reply(alloc, 7, 9, reply)?;
+    Ok(packet.as_slice().len() as u64)
+}
+
+// Writes a reply over and over, and sums up the lengths of its packets.
 fn write_frames(alloc: Global, kind: &Option<String>, rounds: u64) -> Result<u64, NoMemory> {
     let reply = reply(alloc, kind)?;
     let mut sum: u64 = 0;
     for _round in 0..rounds {
-        let packet = write_reply(alloc, 7, 9, &reply)?;
-        sum = sum.wrapping_add(packet.as_slice().len() as u64);
+        sum = sum.wrapping_add(write_frame(alloc, &reply)?);
     }
     Ok(sum)
 }

@@ -16,7 +16,6 @@ use std::alloc::Global;
 /// Stages exactly what an entry of this index changes, and gives its answer: its reply and its events. A layer is
 /// open, with nothing staged in it. Only the paths and the sessions that the entry touches are written at, and the
 /// next session number. Without memory nothing is staged.
-#[tactic(auto, using(crate::proofs::Numbered::numbered))]
 pub fn prepare(
     alloc: Global,
     cells: &mut Cells,

@@ -1,6 +1,6 @@
 -- The cells of the empty tree.
 use Rattle.std.proofs.Common.{◌≡◌, ℕ, Bool, true, false, not, cond, List, [], ◌∷◌, length, Option, Some, None, refl, ap, sym, subst, ◌∙◌, arith}
-use Rattle.std.specs.Prelude.{◌==◌, map, unwrap_or}
+use Rattle.std.specs.Prelude.{◌==◌, map, unwrap_or, Result, Ok, Err, IfOk}
 use Rattle.std.specs.List.{filter}
 use Rattle.std.specs.Option.{option_map}
 use Rattle.std.specs.Str.{bytes_eq}
@@ -125,3 +125,8 @@ begun_sound o e = subst (λ z. IsSound (latest_state z)) (sym e) (settled_sound 
 pub begun_next : (o : Overlays) → o ≡ all_begun (settled 0 root_parts) → (latest_state o).applied ≡ 0
 unfolding whole
 begun_next o e = ap (λ (z : Overlays). (latest_state z).applied) e
+
+-- what holds of the cells of the empty tree
+pub of_settled : {E : Type 0} {P : Overlays → Type 0} (r : Result Overlays E) → ((o : Overlays) → o ≡ settled 0 root_parts → P o) → IfOk r (λ o. o ≡ settled 0 root_parts) → IfOk r P
+of_settled (Ok o) h e = h o e
+of_settled (Err f) h e = tt

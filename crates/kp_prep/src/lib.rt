@@ -8,6 +8,8 @@ mod entry;
 mod plan;
 mod preparing;
 mod stage;
+#[cfg(test)]
+mod tests;
 
 pub use deciding::{Decided, decide};
 pub use plan::{Act, Effect, Found, Plan, Prepared, Stamp};

@@ -1,0 +1,6 @@
+pub mod Places
+pub mod Mended
+pub mod Walked
+pub mod Indexed
+pub mod Taken
+pub mod Listed

@@ -1,0 +1,5 @@
+pub mod Deadline
+pub mod Nodes
+pub mod Walk
+pub mod Due
+pub mod Index

@@ -54,7 +54,6 @@ fn prepared(alloc: Global, entry: &Entry) -> Result<Prepared, NoMemory> {
 }
 
 // What the first entry is answered and changes.
-#[tactic(auto, using(crate::proofs::Numbered::numbered))]
 fn decided(alloc: Global, cells: &Cells, entry: &Entry) -> Result<Decided, NoMemory>
     requires fits { FitTogether (latest_parts cells.now) }
     requires sound { IsSound (latest_state cells.now) }

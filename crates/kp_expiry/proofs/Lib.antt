@@ -4,3 +4,4 @@ pub mod Walked
 pub mod Indexed
 pub mod Taken
 pub mod Listed
+pub mod OneList

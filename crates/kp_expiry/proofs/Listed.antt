@@ -1,11 +1,10 @@
 -- The sessions that are due, from the deadlines that have come.
-use Rattle.std.proofs.Common.{◌≡◌, ℕ, zero, suc, ◌+◌, ◌<◌, ◌≤◌, ◌⊎◌, inl, inr, Bool, true, false, true≢false, cond, nat_eq, nat_le, List, [], ◌∷◌, length, slice_get, get_or, Option, Some, None, refl, ap, sym, ◌∙◌, subst, arith}
+use Rattle.std.proofs.Common.{◌≡◌, ℕ, zero, suc, ◌+◌, ◌<◌, ◌⊎◌, inl, inr, Bool, true, false, true≢false, cond, nat_eq, nat_le, List, [], ◌∷◌, slice_get, get_or, Option, Some, None, refl, ap, sym, ◌∙◌, subst, arith}
 use Rattle.std.specs.Prelude.{map}
 use Rattle.std.proofs.Math.Bool.{◌||◌, or-true}
 use Rattle.std.specs.List.{filter, list_any, All, AllByRecursion, IsDistinct}
 use Rattle.std.specs.List.Sorted.{IsStrictlySortedBy, IsPermutation, IsSorted}
-use Rattle.std.specs.declared.cmp.Ordering.{Ordering}
-use Rattle.std.specs.declared.cmp.Ordering.TheVariants.{Less, Equal, Greater}
+use Rattle.std.specs.declared.cmp.Ordering.TheVariants.{Less, Equal}
 use Rattle.std.specs.Ordering.{is_lt, nat_cmp, ordering_then}
 use Rattle.std.specs.Cmp.{IsTotalOrder, nat_cmp_is, nat_eq_equiv}
 use Rattle.std.proofs.lemmas.Cmp.{nat_cmp_total, then_total, on_total}
@@ -64,7 +63,7 @@ distinct-filter e p (x ∷ xs) h = elim (p x) as (λ b. IsDistinct e (cond b (x 
 abbrev same_session : ℕ × ℕ → ℕ × ℕ → Bool
 same_session x y = nat_eq x.1 y.1
 
-pair_total : IsTotalOrder pair_cmp
+pub pair_total : IsTotalOrder pair_cmp
 pair_total = then_total (on_total (λ (x : ℕ × ℕ). x.0) nat_cmp_total) (on_total (λ (x : ℕ × ℕ). x.1) nat_cmp_total)
 
 three : (a b : ℕ) → (a < b) ⊎ ((a ≡ b) ⊎ (b < a))

@@ -1,12 +1,12 @@
 -- The walk over the nodes at or below which a deadline has come: it finds all of these deadlines.
-use Rattle.std.proofs.Common.{◌≡◌, ◌≢◌, ℕ, zero, suc, ◌+◌, ◌-◌, ◌*◌, ◌/◌, ◌<◌, ◌≤◌, ◌⊎◌, inl, inr, min, Bool, true, false, true≢false, cond, nat_le, List, [], ◌∷◌, ◌++◌, length, take, map, slice_get, get_or, Option, Some, None, option_map, refl, ap, sym, ◌∙◌, subst, arith, append_assoc, append-nil, length-append}
+use Rattle.std.proofs.Common.{◌≡◌, ℕ, zero, suc, ◌+◌, ◌-◌, ◌*◌, ◌/◌, ◌<◌, ◌≤◌, inl, inr, Bool, true, false, true≢false, cond, nat_le, List, [], ◌∷◌, ◌++◌, length, take, slice_get, get_or, Option, Some, None, option_map, refl, ap, sym, ◌∙◌, subst, arith, append-nil, length-append}
 use Rattle.std.specs.List.{filter}
 use Rattle.std.proofs.lemmas.List.{take_all, length-map}
-use Rattle.std.proofs.lemmas.Option.{same_Some, none-some, slice_get_past, slice_get_within, slice_get-map, slice_get-get_or}
-use Rattle.std.proofs.lemmas.Bool.{leb-true, leb-false, le-leb, lt-leb}
+use Rattle.std.proofs.lemmas.Option.{same_Some, none-some, slice_get_past, slice_get-map, slice_get-get_or}
+use Rattle.std.proofs.lemmas.Bool.{leb-false, lt-leb}
 use Rattle.std.proofs.lemmas.Bool.Decides.{eqb_tells}
 use Rattle.kp_expiry.specs.declared.tree.Slot.{Slot}
-use Rattle.kp_expiry.specs.Nodes.{tag, tags, leasts, earlier, least_of, IsRight, AreRight}
+use Rattle.kp_expiry.specs.Nodes.{tag, tags, leasts, earlier, least_of, AreRight}
 use Rattle.kp_expiry.specs.Walk.{warm_in, is_warm, warm_at, has_come, come_in, come_at}
 use Rattle.kp_expiry.proofs.Mended.{le_or, parent_of}
 

@@ -1,6 +1,6 @@
 -- The sessions whose deadline has come, in their order.
 use Rattle.std.specs.Prelude.{◌≡◌, ℕ, Bool, false, nat_eq, nat_le, List, Option, Some, None}
-use Rattle.std.specs.List.{list_any}
+use Rattle.std.specs.List.{list_any, filter}
 use Rattle.std.specs.List.Sorted.{IsStrictlySortedBy}
 use Rattle.std.specs.declared.cmp.Ordering.{Ordering}
 use Rattle.std.specs.Ordering.{nat_cmp, ordering_then}
@@ -31,3 +31,11 @@ by_deadline m a b = pair_cmp (deadline_in (map.get m a), a) (deadline_in (map.ge
 pub record ListsDue (m : FinMap nat_cmp Heard) (now : ℕ) (sessions : List ℕ) : Type 0 where
   pub members : (s : ℕ) → list_any (nat_eq s) sessions ≡ due_in now (map.get m s)
   pub sorted : IsStrictlySortedBy (by_deadline m) sessions
+
+-- the map in the order of deadline and session
+abbrev pub in_turn : (m : FinMap nat_cmp Heard) → FinMap (by_deadline m) Heard
+in_turn m = map.from_entries (map.entries m)
+
+-- the sessions of the map, in that order, that have a deadline of at most now
+abbrev pub due : FinMap nat_cmp Heard → ℕ → List ℕ
+due m now = filter (λ s. due_in now (map.get m s)) (map.keys (in_turn m))

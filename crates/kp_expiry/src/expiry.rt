@@ -2,7 +2,7 @@
 ghost use Rattle.std.specs.Prelude.{◌≡◌, ℕ, nat_eq, cond, OnOk, OnErr, IfOk, IsOk, true, Some, None};
 ghost use Rattle.std.specs.HashMap.{get};
 ghost use Rattle.std.specs.FinMap as map;
-ghost use Rattle.kp_expiry.specs.Due.{ListsDue};
+ghost use Rattle.kp_expiry.specs.Due.{ListsDue, due};
 ghost use Rattle.kp_expiry.specs.Index.{heard_at, moved_to, node_in};
 
 use crate::NoMemory;
@@ -167,7 +167,8 @@ impl Expiry {
     /// Exactly the sessions with a deadline of at most `now`, in milliseconds, in the order of
     /// (deadline, session). It costs the sessions that it answers, times a logarithm.
     pub fn due(&self, alloc: Global, now: u64) -> Result<Vec<u64>, NoMemory>
-        ensures { IfOk result (λ due. ListsDue self.now now due.items) }
+        ensures listed { IfOk result (λ sessions. ListsDue self.now now sessions.items) }
+        ensures exact { IfOk result (λ sessions. sessions.items ≡ due self.now now) }
     {
         let found = find_due(&self.slots, alloc, now)?;
         let sorted = in_order(found);

@@ -1,4 +1,4 @@
-use Rattle.std.proofs.Common.{◌≡◌, ◌∙◌, ap, sym, slice_get, arith}
+use Rattle.std.proofs.Common.{◌∙◌, ap, sym, slice_get, arith}
 use Rattle.kp_expiry.proofs.Walked.{walk_inside, walk_goes_on, walk_ends, walk_was_whole}
 use Rattle.kp_expiry.proofs.listing.find_due.Goals as goal
 use Rattle.kp_expiry.proofs.listing.find_due.Goals.{else-loop-at-test, then-loop-at-test+in_default}

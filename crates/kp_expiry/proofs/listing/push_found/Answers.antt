@@ -1,6 +1,5 @@
-use Rattle.std.proofs.Common.{◌≡◌, ◌++◌, ◌∙◌, ap, sym, arith, append-nil, slice_index_or}
+use Rattle.std.proofs.Common.{◌++◌, ◌∙◌, ap, sym, append-nil}
 use Rattle.kp_expiry.specs.declared.tree.Slot.{Slot}
-use Rattle.kp_expiry.specs.Walk.{come_at}
 use Rattle.kp_expiry.proofs.Walked.{not_come}
 use Rattle.kp_expiry.proofs.listing.push_found.Goals as goal
 

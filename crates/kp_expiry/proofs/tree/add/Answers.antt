@@ -1,5 +1,4 @@
-use Rattle.std.proofs.Common.{◌≡◌, ◌++◌, ◌∷◌, [], ◌∙◌, ap, sym, subst, length, refl, arith}
-use Rattle.kp_expiry.specs.declared.tree.Slot.{Slot}
+use Rattle.std.proofs.Common.{◌≡◌, ◌++◌, ◌∷◌, [], ◌∙◌, subst, length, arith}
 use Rattle.kp_expiry.specs.Nodes.{AreRightAbove}
 use Rattle.kp_expiry.proofs.Mended.{added_right}
 use Rattle.kp_expiry.proofs.tree.add.Goals as goal

@@ -1,6 +1,6 @@
-use Rattle.std.proofs.Common.{ℕ, refl}
+use Rattle.std.proofs.Common.{refl}
 use Rattle.kp_expiry.specs.declared.tree.Slot.{Slot}
-use Rattle.kp_expiry.proofs.Mended.{renewed_tags, renewed_here, renewed_others, right_already}
+use Rattle.kp_expiry.proofs.Mended.{renewed_tags, renewed_here, renewed_others}
 use Rattle.kp_expiry.proofs.tree.renew.Goals as goal
 
 abbrev blank : Slot

@@ -1,4 +1,4 @@
-use Rattle.std.proofs.Common.{◌≡◌, ◌<◌, ◌∙◌, ap, sym, length, arith, slice_set}
+use Rattle.std.proofs.Common.{◌<◌, ◌∙◌, ap, length, arith, slice_set}
 use Rattle.std.proofs.lemmas.List.{length-map}
 use Rattle.kp_expiry.specs.Nodes.{tag, tags}
 use Rattle.kp_expiry.proofs.Mended.{written_back}

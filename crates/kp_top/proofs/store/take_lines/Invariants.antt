@@ -3,7 +3,7 @@ use Rattle.kp_model.specs.Store.{last}
 use Rattle.kp_top.specs.Words.{lines_of}
 use Rattle.kp_top.specs.Transcript.{printed, first_bad, transcript, bad_line}
 use Rattle.kp_top.specs.Output.{Wrote}
-use Rattle.kp_top.proofs.store.run_store.Given as goal
+use Rattle.kp_top.proofs.store.take_lines.Given as goal
 
 abbrev pub invariant-loop-line : goal.invariant-loop-line
 invariant-loop-line g l = record {

@@ -22,9 +22,11 @@ shape_of z = if int_eq z (pos 1) then shapes.Path else if int_eq z (pos 9) then 
 abbrev pub granted : Form Acl
 granted = seen (λ t. record { perms = t.0; scheme = t.1.0; id = t.1.1 }) (λ a. (a.perms, (a.scheme, a.id))) (unsigned_ints ⊗ (present texts ⊗ present texts))
 
+-- an access list that is not null
 abbrev pub acl_lists : Form (List Acl)
 acl_lists = present (vectors granted)
 
+-- names, of which none is null
 abbrev pub name_lists : Form (List (List ℕ))
 name_lists = present (vectors (present texts))
 
@@ -40,6 +42,7 @@ Held shapes.Names = List (List ℕ)
 Held shapes.NamesStat = List (List ℕ) × Stat
 Held shapes.Multi = MultiReply
 
+-- and its form
 abbrev pub bodies : (s : Shape) → Form (Held s)
 bodies shapes.Empty = nothing
 bodies shapes.Path = present texts
@@ -56,28 +59,35 @@ pub data Outcome : Type 0 where
   refused : ℤ → Outcome
   granted_as : Shape → Outcome
 
+-- what a code tells where a reply of the shape is awaited
 abbrev pub outcome_of : Shape → ℤ → Outcome
 outcome_of s z = if int_eq z (pos 0) then granted_as s else refused z
 
+-- and back
 abbrev pub code_in : Outcome → ℤ
 code_in (refused z) = z
 code_in (granted_as s) = pos 0
 
+-- an int, as what it tells
 abbrev pub outcomes : Shape → Form Outcome
 outcomes s = narrowed (λ z. Some (outcome_of s z)) code_in ints
 
+-- what stands behind the code
 abbrev pub OutcomeHeld : Outcome → Type 0
 OutcomeHeld (refused z) = Unit {0}
 OutcomeHeld (granted_as s) = Held s
 
+-- and its form
 abbrev pub outcome_bodies : (o : Outcome) → Form (OutcomeHeld o)
 outcome_bodies (refused z) = nothing
 outcome_bodies (granted_as s) = bodies s
 
+-- the results of a multi, as a reply
 abbrev pub multi_reply : MultiReply → WireReply
 multi_reply (held xs) = reply.Multi xs
 multi_reply (failed zs) = reply.Failed zs
 
+-- the reply of a code and what stands behind it
 abbrev pub reply_of : (o : Outcome) × OutcomeHeld o → WireReply
 reply_of (refused z, u) = reply.Err z
 reply_of (granted_as shapes.Empty, u) = reply.Empty
@@ -90,6 +100,7 @@ reply_of (granted_as shapes.Names, names) = reply.Names names
 reply_of (granted_as shapes.NamesStat, h) = reply.NamesStat h.0 h.1
 reply_of (granted_as shapes.Multi, m) = multi_reply m
 
+-- and back
 abbrev pub outcome_in : WireReply → (o : Outcome) × OutcomeHeld o
 outcome_in (reply.Err z) = (refused z, tt)
 outcome_in reply.Empty = (granted_as shapes.Empty, tt)
@@ -125,7 +136,7 @@ shape_replies shapes.Names = reply_behind (granted_as shapes.Names)
 shape_replies shapes.NamesStat = reply_behind (granted_as shapes.NamesStat)
 shape_replies shapes.Multi = reply_behind (granted_as shapes.Multi)
 
--- the results of a multi, as a reply
+-- the results of a multi, as they are read into a reply
 abbrev pub multi_replies : Reading WireReply
 multi_replies = reply_behind (granted_as shapes.Multi)
 

@@ -16,7 +16,6 @@ use Rattle.kp_model.specs.State.{State, Nodes, Sessions, bytes_at, acl_at}
 use Rattle.kp_model.specs.Step.{Outcome, changed}
 use Rattle.kp_model.specs.Touched.{Touched}
 use Rattle.kp_cells.specs.Parts.{Parts, parts_of}
-use Rattle.kp_cells.specs.declared.change.NodeValue.{NodeValue}
 use Rattle.kp_cells.specs.declared.change.Change.{Change}
 use Rattle.kp_cells.specs.declared.change.Change.TheVariants as change
 use Rattle.kp_prep.specs.declared.deciding.Decided.{Decided}

@@ -4,21 +4,19 @@ use Rattle.std.specs.Prelude.{◌==◌, map, unwrap_or, Result, Ok, Err, IfOk}
 use Rattle.std.specs.List.{filter}
 use Rattle.std.specs.Option.{option_map}
 use Rattle.std.specs.Str.{bytes_eq}
-use Rattle.std.specs.Ordering.{nat_cmp, eq_by_cmp, is_eq}
+use Rattle.std.specs.Ordering.{eq_by_cmp, is_eq}
 use Rattle.std.specs.Cmp.{nat_cmp_total}
 use Rattle.std.proofs.lemmas.Cmp.{tied_itself}
 use Rattle.std.specs.FinMap as map
-use Rattle.std.specs.FinMap.{FinMap, put}
-use Rattle.kp_model.specs.declared.node.Acl.{Acl}
-use Rattle.kp_model.specs.declared.node.Meta.{Meta}
+use Rattle.std.specs.FinMap.{put}
 use Rattle.kp_model.specs.declared.node.Node.{Node}
 use Rattle.kp_model.specs.Good.{IsSound}
 use Rattle.kp_model.specs.Path.{root}
 use Rattle.kp_model.specs.Poured.{node_of}
-use Rattle.kp_model.specs.State.{State, Nodes, path_cmp, blank_node, open_acl, children, is_child, stat, meta_of, empty}
+use Rattle.kp_model.specs.State.{Nodes, path_cmp, blank_node, open_acl, children, is_child, stat, meta_of, empty}
 use Rattle.kp_model.proofs.GoodEmpty.{empty_sound}
 use Rattle.kp_cells.specs.Mapped.{mapped, kept, chosen}
-use Rattle.kp_cells.specs.Parts.{Parts, parts_of, whole, FitTogether}
+use Rattle.kp_cells.specs.Parts.{parts_of, whole, FitTogether}
 use Rattle.kp_cells.specs.Overlays.{Overlays, root_parts, next_in, latest_parts, latest_state, settled, all_begun}
 use Rattle.kp_cells.proofs.Maps.{tied, passing, picked, get-mapped, get-kept, chosen-none}
 use Rattle.kp_prep.proofs.Paths.{path_total, path_same}

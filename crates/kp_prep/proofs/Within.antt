@@ -1,6 +1,6 @@
 -- The writes of a plan are at keys that its entry touches.
 use Rattle.std.proofs.Common.{◌≡◌, ℕ, Bool, true, false, ◌&&◌, ◌||◌, List, [], ◌∷◌, Option, Some, None, refl, ap, sym, subst, ◌∙◌}
-use Rattle.std.specs.Prelude.{◌==◌, if◌then◌else◌, map, IsTrue}
+use Rattle.std.specs.Prelude.{◌==◌, if◌then◌else◌, IsTrue}
 use Rattle.std.specs.List.{list_all}
 use Rattle.std.specs.Option.{option_map_or}
 use Rattle.std.specs.Str.{bytes_eq}
@@ -22,7 +22,7 @@ use Rattle.kp_prep.specs.declared.plan.Effect.TheVariants as effect
 use Rattle.kp_prep.specs.declared.plan.Plan.{Plan}
 use Rattle.kp_prep.specs.Effects.{IsOn, path_of}
 use Rattle.kp_prep.specs.Staged.{staged_effect, staged_session, staged_next, staged_plan}
-use Rattle.kp_prep.specs.Touching.{Keys, AreWithin, keys, staged_keys, is_among, is_one_of, IsFamilyAmong, IsEffectAmong, IsSessionAmong}
+use Rattle.kp_prep.specs.Touching.{AreWithin, keys, staged_keys, is_among, is_one_of, IsFamilyAmong, IsEffectAmong, IsSessionAmong}
 
 -- a session is one of itself
 pub the_one : (id : ℕ) → IsTrue (is_one_of (id ∷ []) id)

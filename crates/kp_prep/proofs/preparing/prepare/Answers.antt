@@ -1,4 +1,4 @@
-use Rattle.std.proofs.Common.{◌≡◌, sym, ap, ◌∙◌}
+use Rattle.std.proofs.Common.{sym, ap, ◌∙◌}
 use Rattle.kp_model.specs.State.{State}
 use Rattle.kp_model.specs.Step.{apply}
 use Rattle.kp_model.specs.Touched.{touched}

@@ -18,6 +18,8 @@ pub use line::StoreLine;
 pub use status::Status;
 
 #[cfg(test)]
+mod agreement;
+#[cfg(test)]
 mod copies;
 #[cfg(test)]
 mod tests;

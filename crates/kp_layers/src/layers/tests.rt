@@ -1,12 +1,13 @@
-ghost use Rattle.std.specs.Prelude.{◌≡◌, IfOk, ◌%◌, Some, None};
+ghost use Rattle.std.specs.Prelude.{◌≡◌, OnOk, ◌%◌, Some, None};
 
 use super::*;
 use std::test::Fail;
 
-fn two_layers(alloc: Global) -> Result<Layers<u64>, NoMemory>
-    ensures { IfOk result (λ layers. layers.staged ≡ None) }
+// Two layers are sealed, and a third is abandoned.
+fn fill(layers: &mut Layers<u64>) -> Result<(), NoMemory>
+    requires { layers.old.staged ≡ None }
+    ensures { OnOk result (layers.new.staged ≡ None) }
 {
-    let mut layers = Layers::new(alloc)?;
     layers.begin()?;
     layers.stage(7, Some(70))?;
     layers.stage(9, Some(90))?;
@@ -21,35 +22,64 @@ fn two_layers(alloc: Global) -> Result<Layers<u64>, NoMemory>
     layers.begin()?;
     layers.stage(9, None)?;
     layers.abandon();
-    Ok(layers)
+    Ok(())
+}
+
+// Whether the latest values are these.
+fn shows(layers: &Layers<u64>, seven: Option<u64>, eight: Option<u64>, nine: Option<u64>) -> bool {
+    layers.latest(7).copied() == seven
+        && layers.latest(8).copied() == eight
+        && layers.latest(9).copied() == nine
+}
+
+// Whether the keys of the base are these.
+fn has_committed(alloc: Global, layers: &Layers<u64>, keys: &[u64]) -> Result<bool, NoMemory> {
+    let found = layers.committed_keys(alloc)?;
+    Ok(found.as_slice() == keys)
+}
+
+// Whether the keys under all layers are these.
+fn has_latest(alloc: Global, layers: &Layers<u64>, keys: &[u64]) -> Result<bool, NoMemory> {
+    let found = layers.latest_keys(alloc)?;
+    Ok(found.as_slice() == keys)
+}
+
+// Whether the two layers tell what they have.
+fn tells_of_both(alloc: Global, layers: &Layers<u64>) -> Result<bool, NoMemory> {
+    let listed = has_latest(alloc, layers, &[8, 9])? && has_committed(alloc, layers, &[])?;
+    Ok(listed && shows(layers, None, Some(80), Some(90)) && layers.committed(9).is_none())
+}
+
+// Whether one is committed and the other goes.
+fn comes_and_goes(alloc: Global, layers: &mut Layers<u64>) -> Result<bool, NoMemory>
+    requires { layers.old.staged ≡ None }
+{
+    let committed = layers.commit_front() && layers.committed(7).copied() == Some(70);
+    let listed = has_committed(alloc, layers, &[7, 9])?;
+    let used = layers.is_used(8) && shows(layers, None, Some(80), Some(90));
+    let dropped = layers.drop_back() && shows(layers, Some(70), None, Some(90));
+    let unused = !layers.is_used(8);
+    let none = !layers.drop_back() && !layers.commit_front();
+    Ok(committed && listed && used && dropped && unused && none)
+}
+
+fn two_layers(alloc: Global, layers: &mut Layers<u64>) -> Result<bool, NoMemory>
+    requires { layers.old.staged ≡ None }
+{
+    fill(layers)?;
+    let told = tells_of_both(alloc, layers)?;
+    Ok(comes_and_goes(alloc, layers)? && told)
+}
+
+fn run_two_layers(alloc: Global) -> Result<bool, NoMemory> {
+    let mut layers = Layers::new(alloc)?;
+    two_layers(alloc, &mut layers)
 }
 
 #[test]
 fn two_layers_come_and_go(rt: HostRuntime) -> Result<(), Fail> {
-    let mut layers = two_layers(rt.alloc())?;
-    assert_eq!(rt; layers.latest(7).copied(), None);
-    assert_eq!(rt; layers.latest(8).copied(), Some(80));
-    assert_eq!(rt; layers.latest(9).copied(), Some(90));
-    assert_eq!(rt; layers.committed(9).copied(), None);
-    assert_eq!(rt;
-        layers.latest_keys(rt.alloc())?.as_slice(),
-        [8, 9].as_slice()
-    );
-    assert!(rt; layers.committed_keys(rt.alloc())?.is_empty());
-    assert!(rt; layers.commit_front());
-    assert_eq!(rt; layers.committed(7).copied(), Some(70));
-    assert_eq!(rt;
-        layers.committed_keys(rt.alloc())?.as_slice(),
-        [7, 9].as_slice()
-    );
-    assert!(rt; layers.is_used(8));
-    assert_eq!(rt; layers.latest(7).copied(), None);
-    assert!(rt; layers.drop_back());
-    assert_eq!(rt; layers.latest(7).copied(), Some(70));
-    assert_eq!(rt; layers.latest(8).copied(), None);
-    assert!(rt; !layers.is_used(8));
-    assert!(rt; !layers.drop_back());
-    assert!(rt; !layers.commit_front());
+    let told = run_two_layers(rt.alloc())?;
+    assert!(rt; told);
     Ok(())
 }
 
@@ -66,10 +96,11 @@ impl Grouping<u64> for ByDigit {
     }
 }
 
-fn grouped(alloc: Global) -> Result<GroupedLayers<u64, ByDigit>, NoMemory>
-    ensures { IfOk result (λ layers. layers.staged ≡ None) }
+// Two layers whose values change their groups.
+fn group(layers: &mut GroupedLayers<u64, ByDigit>) -> Result<(), NoMemory>
+    requires { layers.old.staged ≡ None }
+    ensures { OnOk result (layers.new.staged ≡ None) }
 {
-    let mut layers = GroupedLayers::new(alloc)?;
     layers.begin()?;
     layers.stage(5, Some(11))?;
     layers.stage(3, Some(21))?;
@@ -79,30 +110,53 @@ fn grouped(alloc: Global) -> Result<GroupedLayers<u64, ByDigit>, NoMemory>
     layers.stage(3, Some(32))?;
     layers.stage(5, None)?;
     layers.seal();
-    Ok(layers)
+    Ok(())
+}
+
+// Whether the keys of the group under all layers are these.
+fn has_group(
+    alloc: Global,
+    layers: &GroupedLayers<u64, ByDigit>,
+    group: u64,
+    keys: &[u64],
+) -> Result<bool, NoMemory> {
+    let found = layers.latest_in(alloc, group)?;
+    Ok(found.as_slice() == keys && layers.any_latest_in(group) != keys.is_empty())
+}
+
+// Whether the keys of the group in the base are these.
+fn has_committed_group(
+    alloc: Global,
+    layers: &GroupedLayers<u64, ByDigit>,
+    group: u64,
+    keys: &[u64],
+) -> Result<bool, NoMemory> {
+    let found = layers.committed_in(alloc, group)?;
+    Ok(found.as_slice() == keys && layers.any_committed_in(group) != keys.is_empty())
+}
+
+fn groups(alloc: Global, layers: &mut GroupedLayers<u64, ByDigit>) -> Result<bool, NoMemory>
+    requires { layers.old.staged ≡ None }
+{
+    group(layers)?;
+    let first = has_group(alloc, layers, 1, &[])?;
+    let second = has_group(alloc, layers, 2, &[3, 4])?;
+    let none = has_committed_group(alloc, layers, 1, &[])?;
+    let committed = layers.commit_front();
+    let some = has_committed_group(alloc, layers, 1, &[3, 5])?;
+    let dropped = layers.drop_back();
+    let again = has_group(alloc, layers, 1, &[3, 5])?;
+    Ok(first && second && none && committed && some && dropped && again)
+}
+
+fn run_groups(alloc: Global) -> Result<bool, NoMemory> {
+    let mut layers = GroupedLayers::new(alloc)?;
+    groups(alloc, &mut layers)
 }
 
 #[test]
 fn groups_follow_the_values(rt: HostRuntime) -> Result<(), Fail> {
-    let mut layers = grouped(rt.alloc())?;
-    assert!(rt; layers.latest_in(rt.alloc(), 1)?.is_empty());
-    assert!(rt; !layers.any_latest_in(1));
-    assert_eq!(rt;
-        layers.latest_in(rt.alloc(), 2)?.as_slice(),
-        [3, 4].as_slice()
-    );
-    assert!(rt; !layers.any_committed_in(1));
-    assert!(rt; layers.commit_front());
-    assert_eq!(rt;
-        layers.committed_in(rt.alloc(), 1)?.as_slice(),
-        [3, 5].as_slice()
-    );
-    assert!(rt; layers.any_committed_in(1));
-    assert!(rt; layers.drop_back());
-    assert_eq!(rt;
-        layers.latest_in(rt.alloc(), 1)?.as_slice(),
-        [3, 5].as_slice()
-    );
-    assert!(rt; layers.any_latest_in(1));
+    let told = run_groups(rt.alloc())?;
+    assert!(rt; told);
     Ok(())
 }

@@ -1,8 +1,8 @@
 ghost use Rattle.std.specs.Prelude.{◌≡◌, ◌≢◌, ◌↔◌, ◌∷◌, ◌++◌, Some, None, IfOk, IfErr, IsErrOf, option_copied, if◌then◌else◌};
 ghost use Rattle.std.specs.List.{position};
 ghost use Rattle.std.specs.Str.{is_utf8};
-ghost use Rattle.kp_acl.specs.Colon.{is_colon};
-ghost use Rattle.kp_acl.specs.Digest as digest;
+ghost use Rattle.kp_model.specs.Colon.{is_colon};
+ghost use Rattle.kp_model.specs.Digest as digest;
 
 use crate::errors::AclFail;
 use base64::engine::general_purpose::STANDARD;
@@ -15,7 +15,7 @@ use std::alloc::Global;
 /// have colons, and it may be any bytes. (ZooKeeper's digest scheme.)
 ///
 /// AuthFailed comes exactly where there is no colon, or where the user is no text in UTF-8.
-#[tactic(auto, unfolding(crate::specs::Digest::digest_id))]
+#[tactic(auto, unfolding(kp_model::specs::Digest::digest_id))]
 pub fn digest_id(alloc: Global, auth: &[u8]) -> Result<Text, AclFail>
     ensures ok { IfOk result (λ id. digest.digest_id auth.now ≡ Some id) }
     ensures failed { IsErrOf result AclFail.AuthFailed ↔ (digest.digest_id auth.now ≡ None) }
@@ -28,7 +28,7 @@ pub fn digest_id(alloc: Global, auth: &[u8]) -> Result<Text, AclFail>
 }
 
 // What stands before the first colon, where there is one and that is text.
-#[tactic(auto, unfolding(crate::specs::Digest::user_of))]
+#[tactic(auto, unfolding(kp_model::specs::Digest::user_of))]
 fn user_of(auth: &[u8]) -> Option<&str>
     ensures { option_copied result ≡ digest.user_of auth.now }
 {
@@ -57,7 +57,7 @@ fn text_of(bytes: &[u8]) -> Option<&str>
 }
 
 // The user, a colon and the hash.
-#[tactic(auto, unfolding(crate::specs::Digest::hash_text))]
+#[tactic(auto, unfolding(kp_model::specs::Digest::hash_text))]
 fn id_of(alloc: Global, user: &str, auth: &[u8]) -> Result<Text, NoMemory>
     ensures { IfOk result (λ id. id ≡ user.now ++ 58 ∷ digest.hash_text auth.now) }
 {

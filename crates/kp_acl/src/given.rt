@@ -1,7 +1,7 @@
 ghost use Rattle.std.specs.Prelude.{◌≡◌, ◌≢◌, ◌==◌, ◌&&◌, ◌↔◌, ◌∷◌, ◌++◌, length, map, nat_lt, Some, None, IfOk, IfErr, OnOk, IsErrOf};
 ghost use Rattle.std.specs.List.{list_all, flat_map, count_by};
-ghost use Rattle.kp_acl.specs.Colon.{is_colon};
-ghost use Rattle.kp_acl.specs.Fixed as list;
+ghost use Rattle.kp_model.specs.Colon.{is_colon};
+ghost use Rattle.kp_model.specs.Fixed as list;
 
 use crate::errors::AclFail;
 use kp_model::{Acl, Acls, Items, NoMemory, Paths, Text};
@@ -17,7 +17,7 @@ const ALL_RIGHTS: u32 = 31;
 ///
 /// InvalidAcl comes exactly where the list is empty, a line has another scheme or id, a line says `auth` and no
 /// id was shown, or a line's rights are more than 31, the sum of the five.
-#[tactic(auto, unfolding(crate::specs::Fixed::fixed))]
+#[tactic(auto, unfolding(kp_model::specs::Fixed::fixed))]
 pub fn fix(alloc: Global, ids: &Paths, acl: &Acls) -> Result<Acls, AclFail>
     ensures ok { IfOk result (λ kept. list.fixed ids.now acl.now ≡ Some kept) }
     ensures invalid { IsErrOf result AclFail.InvalidAcl ↔ (list.fixed ids.now acl.now ≡ None) }
@@ -37,7 +37,7 @@ fn may_all_be_given(ids: &[Text], acl: &[Acl]) -> bool
 }
 
 // Whether one who has shown these ids may give the line.
-#[tactic(auto, unfolding(crate::specs::Fixed::may_be_given))]
+#[tactic(auto, unfolding(kp_model::specs::Fixed::may_be_given))]
 fn may_be_given(ids: &[Text], line: &Acl) -> bool
     ensures { result ≡ list.may_be_given ids.now line.now }
 {
@@ -82,7 +82,7 @@ fn all_meant(alloc: Global, ids: &[Text], acl: &[Acl]) -> Result<Acls, NoMemory>
 }
 
 // Adds what one line stands for.
-#[tactic(auto, unfolding(crate::specs::Fixed::meant_by))]
+#[tactic(auto, unfolding(kp_model::specs::Fixed::meant_by))]
 fn add_meant(alloc: Global, kept: &mut Acls, ids: &[Text], line: &Acl) -> Result<(), NoMemory>
     ensures { OnOk result (kept.new ≡ kept.old ++ list.meant_by ids.now line.now) }
 {

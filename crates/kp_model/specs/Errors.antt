@@ -32,3 +32,11 @@ not_empty = negsuc 110
 -- -112: the session is dead, or it has another password
 abbrev pub session_expired : ℤ
 session_expired = negsuc 111
+
+-- -114: an access list that can't be given
+abbrev pub invalid_acl : ℤ
+invalid_acl = negsuc 113
+
+-- -115: no id is made of what was shown
+abbrev pub auth_failed : ℤ
+auth_failed = negsuc 114

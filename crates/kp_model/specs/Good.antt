@@ -4,7 +4,7 @@ use Rattle.std.specs.Str.{bytes_eq}
 use Rattle.std.specs.FinMap as map
 use Rattle.kp_model.specs.declared.node.Node.{Node}
 use Rattle.kp_model.specs.declared.session.Session.{Session}
-use Rattle.kp_model.specs.Grammar.{is_number, is_timeout, is_origin, is_length, fits_acls}
+use Rattle.kp_model.specs.Grammar.{is_number, is_timeout, is_origin, is_length}
 use Rattle.kp_model.specs.Path.{root, parent, is_well_formed}
 use Rattle.kp_model.specs.State.{State, Nodes, Sessions, same_origin}
 
@@ -28,7 +28,7 @@ HasPlace nodes p = bytes_eq p root ≡ false → IsTrue (is_well_formed p) × Ha
 abbrev pub IsCount : ℕ → Type 0
 IsCount n = n ≤ 2147483647
 
--- the numbers of a node: indexes that were applied, times and counts within their limits, data and a list that fit
+-- the numbers of a node: indexes that were applied, times and counts within their limits, data that fits
 pub record HasNumbers (applied : ℕ) (n : Node) : Type 0 where
   pub czxid : n.czxid ≤ applied
   pub mzxid : n.mzxid ≤ applied
@@ -40,7 +40,6 @@ pub record HasNumbers (applied : ℕ) (n : Node) : Type 0 where
   pub aversion : IsCount n.aversion
   pub created : IsCount n.created
   pub bytes : IsTrue (is_length (length n.bytes))
-  pub acl : IsTrue (fits_acls n.acl)
 
 -- a session: its number was given out, and its numbers are within their limits
 pub record IsGoodSession (next id : ℕ) (x : Session) : Type 0 where

@@ -4,6 +4,10 @@ pub mod Grammar
 pub mod Errors
 pub mod State
 pub mod Rights
+pub mod Colon
+pub mod Fixed
+pub mod Digest
+pub mod Sequenced
 pub mod Step
 pub mod Good
 pub mod Store

@@ -18,6 +18,9 @@ create = 4
 abbrev pub delete : ℕ
 delete = 8
 
+abbrev pub admin : ℕ
+admin = 16
+
 -- whether the line is for one who has these ids
 abbrev pub is_for : List (List ℕ) → Acl → Bool
 is_for ids a = bytes_eq a.scheme (codes "world") && bytes_eq a.id (codes "anyone")

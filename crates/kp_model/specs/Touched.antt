@@ -9,6 +9,7 @@ use Rattle.kp_model.specs.declared.entry.Body.TheVariants as body
 use Rattle.kp_model.specs.LogEntry.{LogEntry}
 use Rattle.kp_model.specs.Path.{parent}
 use Rattle.kp_model.specs.State.{State, Nodes, owned}
+use Rattle.kp_model.specs.Step.{made_path}
 
 pub record Touched : Type 0 where
   pub paths : List (List ℕ)
@@ -25,9 +26,9 @@ path_of_op (op.Delete path version) = path
 path_of_op (op.SetData path bytes version) = path
 path_of_op (op.Check path version) = path
 
--- the paths that a command of a session names; a closing stands for those that the session owns
+-- the paths that a command of a session names or makes; a closing stands for those that the session owns
 abbrev pub paths_of : Nodes → ℕ → Cmd → List (List ℕ)
-paths_of nodes id (cmd.Create path bytes acl flags stat) = path ∷ []
+paths_of nodes id (cmd.Create path bytes acl flags stat) = made_path nodes path flags ∷ []
 paths_of nodes id (cmd.Delete path version) = path ∷ []
 paths_of nodes id (cmd.SetData path bytes version) = path ∷ []
 paths_of nodes id (cmd.SetAcl path acl version) = path ∷ []

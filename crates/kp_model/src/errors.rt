@@ -23,3 +23,9 @@ pub const NOT_EMPTY: i32 = -111;
 
 /// The session is dead, or it has another password.
 pub const SESSION_EXPIRED: i32 = -112;
+
+/// An access list that can't be given: it is empty, or one of its lines names nobody or an unknown right.
+pub const INVALID_ACL: i32 = -114;
+
+/// What was shown makes no id: another scheme than `digest`, no colon, or a user that is no text in UTF-8.
+pub const AUTH_FAILED: i32 = -115;

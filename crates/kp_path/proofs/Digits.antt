@@ -3,7 +3,7 @@ use Rattle.std.proofs.Common.{◌≡◌, ℕ, ◌+◌, ◌-◌, ◌<◌, ◌≤�
 use Rattle.std.specs.Fmt.{padded_integral, char_count, format_spec}
 use Rattle.std.proofs.lemmas.Fmt.{length-decimal-le}
 use Rattle.std.proofs.lemmas.List.{length-append, length-replicate}
-use Rattle.kp_path.specs.Sequenced.{ten_digits, sequenced}
+use Rattle.kp_model.specs.Sequenced.{ten_digits, sequenced}
 
 -- what `{:010}` writes of a number
 pub padded_to_ten : (n : ℕ) → padded_integral (format_spec 32 0 4 10 (2 ^ 64 - 1)) false [] (decimal n) ≡ ten_digits n

@@ -1,2 +1,1 @@
 pub mod Slash
-pub mod Sequenced

@@ -8,7 +8,7 @@ ghost use Rattle.std.specs.List.{list_all, slice_split};
 ghost use Rattle.kp_model.specs.Path as paths;
 ghost use Rattle.kp_model.specs.Path.{is_well_formed};
 ghost use Rattle.kp_path.specs.Slash.{IsSlashAt};
-ghost use Rattle.kp_path.specs.Sequenced.{sequenced};
+ghost use Rattle.kp_model.specs.Sequenced.{sequenced};
 
 use kp_model::{NoMemory, Text};
 use std::alloc::Global;
@@ -52,7 +52,7 @@ pub fn name(path: &str) -> &str
 /// The path of a node that is made with a running number: the path that was asked for, which may end in
 /// `/`, and behind it the number in ten decimal digits, with zeros in front. The number is how many children
 /// were ever made under the parent before this one.
-#[tactic(auto, unfolding(crate::specs::Sequenced::sequenced))]
+#[tactic(auto, unfolding(kp_model::specs::Sequenced::sequenced))]
 pub fn sequence_name(alloc: Global, path: &str, created: u32) -> Result<Text, NoMemory>
     ensures name { IfOk result (λ name. name ≡ sequenced path.now created) }
     ensures ten { IfOk result (λ name. length name ≡ length path.now + 10) }

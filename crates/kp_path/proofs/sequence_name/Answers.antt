@@ -1,6 +1,6 @@
 use Rattle.std.proofs.Common.{◌++◌, length, ap, ◌∙◌, arith}
 use Rattle.std.specs.Fmt.{styled_decimal}
-use Rattle.kp_path.specs.Sequenced.{sequenced}
+use Rattle.kp_model.specs.Sequenced.{sequenced}
 use Rattle.kp_path.proofs.Digits.{padded_to_ten, length-sequenced}
 use Rattle.kp_path.proofs.sequence_name.Goals as goal
 

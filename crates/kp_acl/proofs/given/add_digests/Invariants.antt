@@ -1,5 +1,5 @@
 use Rattle.std.proofs.Common.{◌≡◌, ◌++◌, map, drop}
-use Rattle.kp_acl.specs.Fixed.{digest_line}
+use Rattle.kp_model.specs.Fixed.{digest_line}
 use Rattle.kp_acl.proofs.given.add_digests.Given as goal
 
 -- what is there and what is still to come make the whole

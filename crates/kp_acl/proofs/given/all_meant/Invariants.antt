@@ -1,6 +1,6 @@
 use Rattle.std.proofs.Common.{◌≡◌, ◌++◌, drop}
 use Rattle.std.specs.List.{flat_map}
-use Rattle.kp_acl.specs.Fixed.{meant_by}
+use Rattle.kp_model.specs.Fixed.{meant_by}
 use Rattle.kp_acl.proofs.given.all_meant.Given as goal
 
 -- what is there and what is still to come make the whole

@@ -6,7 +6,7 @@ use Rattle.std.specs.Str.{is_utf8}
 use Rattle.sha1.specs.Sha1.{sha1}
 use Rattle.base64.specs.GeneralPurpose.{encode_of}
 use Rattle.base64.specs.Engines.{standard}
-use Rattle.kp_acl.specs.Colon.{is_colon}
+use Rattle.kp_model.specs.Colon.{is_colon}
 
 -- what stands before the first colon, where there is one and that is text in UTF-8
 unfoldable pub user_of : List ℕ → Option (List ℕ)

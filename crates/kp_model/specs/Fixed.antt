@@ -3,7 +3,7 @@ use Rattle.std.specs.Prelude.{ℕ, Bool, ◌&&◌, ◌||◌, ◌==◌, nat_lt, n
 use Rattle.std.specs.List.{list_all, flat_map, count_by}
 use Rattle.std.specs.Str.{bytes_eq}
 use Rattle.kp_model.specs.declared.node.Acl.{Acl}
-use Rattle.kp_acl.specs.Colon.{is_colon}
+use Rattle.kp_model.specs.Colon.{is_colon}
 use lib.Chars.{codes}
 
 -- the line for one id

@@ -1,3 +1,0 @@
-pub mod Colon
-pub mod Fixed
-pub mod Digest

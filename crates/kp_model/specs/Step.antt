@@ -1,5 +1,5 @@
 -- What one entry does: the state after it, its reply and its events.
-use Rattle.std.specs.Prelude.{ℕ, ℤ, Bool, false, not, ◌&&◌, ◌||◌, ◌+◌, ◌==◌, nat_le, List, [], ◌∷◌, ◌++◌, length, Option, Some, None, is_some, unwrap_or, if◌then◌else◌}
+use Rattle.std.specs.Prelude.{ℕ, ℤ, Bool, false, not, ◌&&◌, ◌||◌, ◌+◌, ◌==◌, nat_le, List, [], ◌∷◌, ◌++◌, length, Option, Some, None, is_some, unwrap_or, replicate, pos, negsuc, if◌then◌else◌}
 use Rattle.std.specs.List.{list_any, flat_map}
 use Rattle.std.specs.Option.{option_map_or}
 use Rattle.std.specs.Str.{bytes_eq}
@@ -15,6 +15,10 @@ use Rattle.kp_model.specs.declared.reply.Event.{Event}
 use Rattle.kp_model.specs.declared.reply.Event.TheVariants as event
 use Rattle.kp_model.specs.declared.reply.Reply.{Reply}
 use Rattle.kp_model.specs.declared.reply.Reply.TheVariants as reply
+use Rattle.kp_model.specs.declared.reply.OpReply.{OpReply}
+use Rattle.kp_model.specs.declared.reply.OpReply.TheVariants as done
+use Rattle.kp_model.specs.declared.command.Op.{Op}
+use Rattle.kp_model.specs.declared.command.Op.TheVariants as op
 use Rattle.kp_model.specs.declared.command.Cmd.{Cmd}
 use Rattle.kp_model.specs.declared.command.Cmd.TheVariants as cmd
 use Rattle.kp_model.specs.Errors.{bad_arguments, no_node, no_auth, bad_version, no_children_for_ephemerals, node_exists, not_empty, session_expired, invalid_acl, auth_failed}
@@ -245,15 +249,50 @@ closed s i session = let paths = owned s.nodes session in record {
   events = flat_map removal_events paths;
 }
 
--- a command of a session with these ids, at index i and time t; the command that no line makes yet is left out
+-- an operation, which is a command on one node: of a session with these ids, at index i and time t
+abbrev pub act_on : State → ℕ → List (List ℕ) → ℕ → ℕ → Op → Outcome
+act_on s session ids i t (op.Create path bytes acl flags with_stat) = made s session ids i t (made_path s.nodes path flags) bytes acl flags with_stat
+act_on s session ids i t (op.Delete path version) = unless (delete_fails s.nodes ids path version) s (deleted s i path)
+act_on s session ids i t (op.SetData path bytes version) = unless (version_fails s.nodes ids right.write path version) s (set s i t path bytes)
+act_on s session ids i t (op.Check path version) = unless (version_fails s.nodes ids right.read path version) s (replies s reply.Done)
+
+-- the code of an error
+abbrev pub error_of : Reply → Option ℤ
+error_of (reply.Err code) = Some code
+error_of _ = None
+
+-- what an operation is answered within a multi
+abbrev pub op_reply : Reply → OpReply
+op_reply (reply.Path path) = done.Path path
+op_reply (reply.PathStat path m) = done.PathStat path m
+op_reply (reply.Stat m) = done.Stat m
+op_reply _ = done.Done
+
+-- a multi that failed: 0 for each operation before, the code, and -2 for each behind
+abbrev pub failure : ℕ → ℤ → ℕ → Reply
+failure before code behind = reply.Failed (replicate before (pos 0) ++ code ∷ replicate behind (negsuc 1))
+
+-- what an error makes, or else the outcome
+abbrev pub stop_at : Option ℤ → (ℤ → Outcome) → Outcome → Outcome
+stop_at None failed o = o
+stop_at (Some code) failed o = failed code
+
+-- the operations from left to right, each on the state behind those before it, whose answers and events are given; at the first error the state is the old one
+unfoldable pub multi : State → State → ℕ → List (List ℕ) → ℕ → ℕ → List OpReply → List Event → List Op → Outcome
+multi old s session ids i t answers events [] = record { state = s; reply = reply.Multi answers; events = events }
+multi old s session ids i t answers events (op ∷ ops) = let o = act_on s session ids i t op in
+    stop_at (error_of o.reply) (λ code. replies old (failure (length answers) code (length ops)))
+    (multi old o.state session ids i t (answers ++ op_reply o.reply ∷ []) (events ++ o.events) ops)
+
+-- a command of a session with these ids, at index i and time t
 unfoldable pub act : State → ℕ → List (List ℕ) → ℕ → ℕ → Cmd → Outcome
-act s session ids i t (cmd.Create path bytes acl flags with_stat) = made s session ids i t (made_path s.nodes path flags) bytes acl flags with_stat
-act s session ids i t (cmd.Delete path version) = unless (delete_fails s.nodes ids path version) s (deleted s i path)
-act s session ids i t (cmd.SetData path bytes version) = unless (version_fails s.nodes ids right.write path version) s (set s i t path bytes)
+act s session ids i t (cmd.Create path bytes acl flags with_stat) = act_on s session ids i t (op.Create path bytes acl flags with_stat)
+act s session ids i t (cmd.Delete path version) = act_on s session ids i t (op.Delete path version)
+act s session ids i t (cmd.SetData path bytes version) = act_on s session ids i t (op.SetData path bytes version)
 act s session ids i t (cmd.SetAcl path acl version) = unless (set_acl_fails s.nodes ids path acl version) s (set_acl s path (unwrap_or (fixed ids acl) []))
-act s session ids i t (cmd.Check path version) = unless (version_fails s.nodes ids right.read path version) s (replies s reply.Done)
+act s session ids i t (cmd.Check path version) = act_on s session ids i t (op.Check path version)
 act s session ids i t (cmd.Auth scheme auth) = shows s session (shown_id scheme auth)
-act s session ids i t (cmd.Multi ops) = replies s reply.Stale
+act s session ids i t (cmd.Multi ops) = multi s s session ids i t [] [] ops
 act s session ids i t (cmd.Sync path) = synced s path
 act s session ids i t cmd.CloseSession = closed s i session
 

@@ -34,7 +34,7 @@ chosen_index : (o : Option ℤ) (failed : ℤ → Outcome) (rest : Outcome) (n :
 chosen_index None failed rest n f r = r
 chosen_index (Some e) failed rest n f r = f e
 
-acted_on : (s : State) (session : ℕ) (ids : List (List ℕ)) (i t : ℕ) (o : Op) → (act_on s session ids i t o).state.applied ≡ s.applied
+pub acted_on : (s : State) (session : ℕ) (ids : List (List ℕ)) (i t : ℕ) (o : Op) → (act_on s session ids i t o).state.applied ≡ s.applied
 unfolding created deleted set
 acted_on s session ids i t (op.Create path bytes acl flags stat) = refused _ s _ refl
 acted_on s session ids i t (op.Delete path version) = refused _ s _ refl

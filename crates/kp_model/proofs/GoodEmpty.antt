@@ -29,7 +29,6 @@ blank_numbers = record {
   aversion = zero-le;
   created = zero-le;
   bytes = refl;
-  acl = refl;
 }
 
 empty_good : IsGood empty

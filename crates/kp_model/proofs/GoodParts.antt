@@ -1,7 +1,7 @@
 -- A good state stays good as one of its parts changes.
-use Rattle.std.proofs.Common.{◌≡◌, ℕ, ◌+◌, ◌≤◌, ◌<◌, false, not, ◌&&◌, length, List, Some, IsTrue, sym, ap, ◌∙◌, true≢false, le_trans, lt_of_lt_of_le, arith, le-leb}
+use Rattle.std.proofs.Common.{◌≡◌, ℕ, ◌+◌, ◌≤◌, ◌<◌, ◌==◌, false, not, ◌&&◌, length, List, Some, IsTrue, sym, ap, ◌∙◌, true≢false, le_trans, lt_of_lt_of_le, arith, le-leb}
 use Rattle.std.specs.Str.{bytes_eq}
-use Rattle.std.specs.Cmp.{nat_cmp_total}
+use Rattle.std.specs.Cmp.{nat_cmp_total, nat_eq_equiv}
 use Rattle.std.specs.Cmp.Lexicographic.{nat_list_cmp_total}
 use Rattle.std.specs.FinMap as map
 use Rattle.std.specs.FinMap.{IsAntisymmetric, nat_cmp-IsAntisymmetric, slice_cmp-IsAntisymmetric}
@@ -12,7 +12,7 @@ use Rattle.kp_model.specs.Grammar.{is_number}
 use Rattle.kp_model.specs.Path.{root, parent}
 use Rattle.kp_model.specs.State.{State, Nodes, path_cmp, is_child, children}
 use Rattle.kp_model.specs.Good.{HasOwner, IsPersistent, HasPlace, HasNumbers, IsGoodSession, IsGood}
-use Rattle.kp_model.proofs.Maps.{Each, each_inserted, each_removed, finds_inserted, finds_removed, some_inserted, no_key_passes}
+use Rattle.kp_model.proofs.Maps.{Each, each_inserted, each_removed, finds_inserted, finds_removed, some_inserted, some_removed, no_key_passes}
 
 pub path_cmp-IsAntisymmetric : IsAntisymmetric path_cmp
 path_cmp-IsAntisymmetric = slice_cmp-IsAntisymmetric nat_cmp-IsAntisymmetric
@@ -31,7 +31,6 @@ numbers_raised a b n le h = record {
   aversion = h.aversion;
   created = h.created;
   bytes = h.bytes;
-  acl = h.acl;
 }
 
 pub raised_good : (s : State) → s.applied < 4611686018427387904 → IsGood s → IsGood (record s { applied = s.applied + 1 })
@@ -130,4 +129,20 @@ session_set_good s next id x number le fine good = record {
         seq = h.seq;
         holder = h.holder;
       });
+}
+
+other_number : (a b : ℕ) → (a == b) ≡ false → a ≡ b → ⊥
+other_number a b apart e = true≢false (sym (nat_eq_equiv.refl a) ∙ ap (λ x. a == x) e ∙ apart)
+
+-- a session is removed that owns no node
+pub session_removed_good : (s : State) (id : ℕ) → Each (λ _ n. (n.owner == id) ≡ false) s.nodes → IsGood s → IsGood (record s { sessions = map.remove s.sessions id })
+session_removed_good s id none good = record {
+  applied = good.applied;
+  next = good.next;
+  some = good.some;
+  root_there = good.root_there;
+  places = good.places;
+  owners = λ p n found owned. some_removed nat_cmp_total nat_cmp-IsAntisymmetric s.sessions id n.owner (other_number n.owner id (none p n found)) (good.owners p n found owned);
+  numbers = good.numbers;
+  sessions = each_removed nat_cmp_total nat_cmp-IsAntisymmetric (IsGoodSession s.next) s.sessions id good.sessions;
 }

@@ -1,62 +1,54 @@
 -- Entries keep a good state good, and a sound state sound.
-use Rattle.std.proofs.Common.{◌≡◌, ℕ, ◌+◌, ◌≤◌, ◌<◌, ◌==◌, Bool, true, false, not, ◌&&◌, ◌||◌, cond, List, [], ◌∷◌, length, Option, Some, None, IsTrue, refl, arith, leb-false, le-leb, eqb-true}
-use Rattle.std.specs.Prelude.{nat_le}
+use Rattle.std.proofs.Common.{◌≡◌, ℕ, ◌+◌, ◌≤◌, ◌<◌, ◌==◌, not, ◌&&◌, List, [], ◌∷◌, length, Option, Some, None, IsTrue, IsSome, refl, sym, subst, true≢false, arith, eqb-true}
+use Rattle.std.specs.Prelude.{unwrap_or}
 use Rattle.std.specs.List.{list_all}
+use Rattle.std.specs.Cmp.{nat_cmp_total}
 use Rattle.std.specs.FinMap as map
+use Rattle.std.specs.FinMap.{nat_cmp-IsAntisymmetric}
 use Rattle.kp_model.specs.LogEntry.{LogEntry}
 use Rattle.kp_model.specs.declared.session.Session.{Session}
-use Rattle.kp_model.specs.declared.session.Origin.{Origin}
 use Rattle.kp_model.specs.declared.entry.Body.{Body}
 use Rattle.kp_model.specs.declared.entry.Body.TheVariants as body
+use Rattle.kp_model.specs.declared.command.Op.TheVariants as op
 use Rattle.kp_model.specs.declared.command.Cmd.{Cmd}
-use Rattle.kp_model.specs.Grammar.{is_number, is_timeout, is_origin, is_body, fits_cmd, is_fitting, has_numbers, is_entry}
-use Rattle.kp_model.specs.State.{State, is_held}
-use Rattle.kp_model.specs.Step.{Outcome, new_session, opened, with_seq, written_by, take_body, apply}
+use Rattle.kp_model.specs.declared.command.Cmd.TheVariants as cmd
+use Rattle.kp_model.specs.Grammar.{is_number, is_timeout, is_origin, is_body, is_length, fits_op, fits_cmd, is_fitting, has_numbers, is_entry}
+use Rattle.kp_model.specs.Path.{is_well_formed}
+use Rattle.kp_model.specs.Fixed.{fixed}
+use Rattle.kp_model.specs.State.{State}
+use Rattle.kp_model.specs.Step.{shown_id, act, with_seq, written_by, take_body, apply}
 use Rattle.kp_model.specs.Store.{after}
-use Rattle.kp_model.specs.Good.{IsGoodSession, IsGood, IsSound}
-use Rattle.kp_model.proofs.Maps.{none_of}
+use Rattle.kp_model.specs.Good.{IsGood, IsSound}
+use Rattle.kp_model.proofs.Maps.{some_inserted}
 use Rattle.kp_model.proofs.Applied.{applied-apply}
 use Rattle.kp_model.proofs.GoodParts.{raised_good, session_set_good}
-use Rattle.kp_model.proofs.GoodNodes.{both, act_good}
+use Rattle.kp_model.proofs.GoodNodes.{both, unless_good, set_acl_good, act_on_good}
+use Rattle.kp_model.proofs.GoodClosing.{closed_good}
+use Rattle.kp_model.proofs.GoodMulti.{multi_good}
+use Rattle.kp_model.proofs.GoodSessions.{chosen_good, opened_good, attached_good, expired_good, shows_good, with_seq_good}
 use Rattle.kp_model.proofs.Holders.{apply_holders}
 
-chosen_good : (b : Bool) (x y : Outcome) → IsGood x.state → (b ≡ false → IsGood y.state) → IsGood (cond b x y).state
-chosen_good true x y p q = p
-chosen_good false x y p q = q refl
+-- ---- commands
 
--- ---- sessions
+-- a session that is there has a number that was given out
+lives_given : (s : State) (session : ℕ) (o : Option Session) → map.get s.sessions session ≡ o → IsSome o → IsGood s → 1 ≤ session
+lives_given s session None found lives good = absurd (true≢false (sym lives))
+lives_given s session (Some x) found lives good = (good.sessions session x found).given
 
-new_session_good : (next timeout : ℕ) (passwd : List ℕ) (origin : Origin) → 1 ≤ next → IsTrue (is_timeout timeout) → IsTrue (is_origin origin) → length passwd ≡ 16
-    → IsGoodSession (next + 1) next (new_session timeout passwd origin)
-new_session_good next timeout passwd origin some fine known sixteen = record {
-  given = some;
-  below = omega arith;
-  timeout = fine;
-  passwd = sixteen;
-  epoch = refl;
-  seq = refl;
-  holder = known;
-}
-
-opened_good : (s : State) (timeout : ℕ) (passwd : List ℕ) (origin : Origin) → IsTrue (is_timeout timeout) → IsTrue (is_origin origin) → length passwd ≡ 16
-    → IsGood s → IsGood (opened s timeout passwd origin).state
-unfolding opened
-opened_good s timeout passwd origin fine known sixteen good =
-    chosen_good (is_held s.sessions origin || nat_le 4611686018427387904 s.next) _ _ good
-    (λ e. session_set_good s (s.next + 1) s.next (new_session timeout passwd origin)
-    (le-leb _ _ (omega (arith, leb-false 4611686018427387904 s.next (none_of _ _ e).1))) (omega arith)
-    (new_session_good s.next timeout passwd origin good.some fine known sixteen) good)
-
-with_seq_good : (next id seq : ℕ) (x : Session) → IsTrue (is_number seq) → IsGoodSession next id x → IsGoodSession next id (with_seq seq x)
-with_seq_good next id seq x number h = record {
-  given = h.given;
-  below = h.below;
-  timeout = h.timeout;
-  passwd = h.passwd;
-  epoch = h.epoch;
-  seq = number;
-  holder = h.holder;
-}
+-- a command of a live session keeps a good state good
+act_good : (s : State) (session : ℕ) (ids : List (List ℕ)) (t : ℕ) (c : Cmd) → IsTrue (is_number t) → IsTrue (fits_cmd c) → IsSome (map.get s.sessions session)
+    → IsGood s → IsGood (act s session ids s.applied t c).state
+unfolding act
+act_good s session ids t (cmd.Create path bytes acl flags with_stat) time fits lives good = act_on_good s session ids t (op.Create path bytes acl flags with_stat) time fits lives good
+act_good s session ids t (cmd.Delete path version) time fits lives good = act_on_good s session ids t (op.Delete path version) time fits lives good
+act_good s session ids t (cmd.SetData path bytes version) time fits lives good = act_on_good s session ids t (op.SetData path bytes version) time fits lives good
+act_good s session ids t (cmd.SetAcl path acl version) time fits lives good = unless_good _ s _ good (λ _. set_acl_good s path (unwrap_or (fixed ids acl) []) good)
+act_good s session ids t (cmd.Check path version) time fits lives good = act_on_good s session ids t (op.Check path version) time fits lives good
+act_good s session ids t (cmd.Auth scheme auth) time fits lives good = shows_good s session (shown_id scheme auth) good
+act_good s session ids t (cmd.Multi ops) time fits lives good =
+    multi_good s s session ids s.applied t [] [] ops refl time (both (is_length (length ops)) (list_all fits_op ops) fits).1 lives good good
+act_good s session ids t (cmd.Sync path) time fits lives good = chosen_good (is_well_formed path) _ _ good (λ _. good)
+act_good s session ids t cmd.CloseSession time fits lives good = closed_good s session (lives_given s session _ refl lives good) good
 
 written_good : (o : Option Session) (s : State) (t session epoch seq : ℕ) (c : Cmd) → map.get s.sessions session ≡ o
     → IsTrue (is_number t) → IsTrue (is_number seq) → IsTrue (fits_cmd c)
@@ -64,7 +56,8 @@ written_good : (o : Option Session) (s : State) (t session epoch seq : ℕ) (c :
 written_good None s t session epoch seq c found time number fits good = good
 written_good (Some x) s t session epoch seq c found time number fits good =
     chosen_good (not (epoch == x.epoch && seq == x.seq + 1)) _ _ good
-    (λ _. act_good (record s { sessions = map.insert s.sessions session (with_seq seq x) }) x.ids t c time fits
+    (λ _. act_good (record s { sessions = map.insert s.sessions session (with_seq seq x) }) session x.ids t c time fits
+    (some_inserted nat_cmp_total nat_cmp-IsAntisymmetric s.sessions session (with_seq seq x) session (subst IsSome (sym found) refl))
     (session_set_good s s.next session (with_seq seq x) good.next (omega arith) (with_seq_good s.next session seq x number (good.sessions session x found)) good))
 
 -- ---- bodies and entries
@@ -75,8 +68,9 @@ taken_good s t body.Noop time numbers fits good = good
 taken_good s t (body.OpenSession timeout passwd origin) time numbers fits good =
     let parts = both (is_timeout timeout) (is_origin origin) numbers in
     opened_good s timeout passwd origin parts.0 parts.1 (eqb-true (length passwd) 16 fits) good
-taken_good s t (body.Attach session passwd origin) time numbers fits good = good
-taken_good s t (body.Expire session) time numbers fits good = good
+taken_good s t (body.Attach session passwd origin) time numbers fits good =
+    attached_good _ s session passwd origin refl (both (is_number session) (is_origin origin) numbers).1 good
+taken_good s t (body.Expire session) time numbers fits good = expired_good _ s session refl good
 taken_good s t (body.Write session epoch seq c) time numbers fits good =
     written_good _ s t session epoch seq c refl time (both (is_number epoch) (is_number seq) (both (is_number session) _ numbers).1).1 fits good
 

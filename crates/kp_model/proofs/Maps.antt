@@ -1,11 +1,12 @@
 -- What is true of each value of a finite map stays true when one value is put in or taken out.
-use Rattle.std.proofs.Common.{◌≡◌, Bool, true, false, cond, ◌||◌, ◌⊎◌, inl, inr, T, List, [], ◌∷◌, length, map, Option, Some, None, is_some, IsSome, filter, Ordering, Less, Equal, Greater, is_eq, refl, sym, ap, subst, ◌∙◌, true≢false, arith}
+use Rattle.std.proofs.Common.{◌≡◌, Bool, true, false, cond, ◌&&◌, ◌||◌, ◌⊎◌, inl, inr, T, List, [], ◌∷◌, length, map, Option, Some, None, is_some, IsSome, filter, Ordering, Less, Equal, Greater, is_eq, refl, sym, ap, subst, ◌∙◌, true≢false, arith}
 use Rattle.std.specs.List.{list_any}
 use Rattle.std.specs.Ordering.{eq_by_cmp}
 use Rattle.std.specs.Option.{unwrap_or}
 use Rattle.std.specs.Cmp.{IsTotalOrder, tied_itself}
 use Rattle.std.specs.FinMap as fin
 use Rattle.std.specs.FinMap.{FinMap, IsAntisymmetric, get-insert, get-remove, get-entries, contains_key-keys}
+use Rattle.std.proofs.lemmas.Map.Views.{any-filter_same}
 
 pub same_value : {X : Type 0} (x y : X) → Some x ≡ Some y → x ≡ y
 same_value x y e = ap (λ o. unwrap_or o x) e
@@ -24,9 +25,9 @@ picked : {X : Type 0} (P : X → Type 0) (b : Bool) (v : X) (old : Option X) (x 
 picked P true v old x new keeps found = subst P (same_value v x found) (new refl)
 picked P false v old x new keeps found = keeps found
 
-left : {X : Type 0} (b : Bool) (old : Option X) (x : X) → cond b None old ≡ Some x → old ≡ Some x
+left : {X : Type 0} (b : Bool) (old : Option X) (x : X) → cond b None old ≡ Some x → (b ≡ false) × (old ≡ Some x)
 left true old x found = absurd (no_value x (sym found))
-left false old x found = found
+left false old x found = (refl, found)
 
 stays : {X : Type 0} (b : Bool) (old : Option X) → (b ≡ true → ⊥) → cond b None old ≡ old
 stays true old apart = absurd (apart refl)
@@ -66,6 +67,10 @@ new_or_old : {X : Type 0} (b : Bool) (v : X) (old : Option X) (x : X) → cond b
 new_or_old true v old x found = inl (refl, sym (same_value v x found))
 new_or_old false v old x found = inr found
 
+and_true : (b : Bool) → (b && true) ≡ b
+and_true true = refl
+and_true false = refl
+
 with_key : {A B C D : Type 0} → (A → C) → A × B ⊎ D → C × B ⊎ D
 with_key f (inl p) = inl (f p.0, p.1)
 with_key f (inr d) = inr d
@@ -104,8 +109,12 @@ module _ {K X : Type 0} {R : K → K → Ordering} (o : IsTotalOrder R) (same : 
   each_inserted P m k v new keeps q x found =
       picked (P q) (eq_by_cmp R q k) v (fin.get m q) x (λ e. subst (λ j. P j v) (sym (same_key same q k e)) new) (keeps q x) (sym (get-insert o m k v q) ∙ found)
 
+  -- what is found after a removal was there, at another key
+  pub left_there : (m : FinMap R X) (k q : K) (x : X) → fin.get (fin.remove m k) q ≡ Some x → (eq_by_cmp R q k ≡ false) × (fin.get m q ≡ Some x)
+  left_there m k q x found = left (eq_by_cmp R q k) _ x (sym (get-remove o m k q) ∙ found)
+
   pub each_removed : (P : K → X → Type 0) (m : FinMap R X) (k : K) → Each P m → Each P (fin.remove m k)
-  each_removed P m k keeps q x found = keeps q x (left (eq_by_cmp R q k) _ x (sym (get-remove o m k q) ∙ found))
+  each_removed P m k keeps q x found = keeps q x (left_there m k q x found).1
 
   -- a value with the property is still found where the one that takes its place has the property too
   pub finds_inserted : (P : X → Type 0) (m : FinMap R X) (k : K) (v : X) (q : K)
@@ -117,9 +126,17 @@ module _ {K X : Type 0} {R : K → K → Ordering} (o : IsTotalOrder R) (same : 
   pub finds_removed : (P : X → Type 0) (m : FinMap R X) (k q : K) → (q ≡ k → ⊥) → Finds P m q → Finds P (fin.remove m k) q
   finds_removed P m k q apart f = (f.0, get-remove o m k q ∙ stays (eq_by_cmp R q k) _ (λ e. apart (same_key same q k e)) ∙ f.1, f.2)
 
+  pub some_removed : (m : FinMap R X) (k q : K) → (q ≡ k → ⊥) → IsSome (fin.get m q) → IsSome (fin.get (fin.remove m k) q)
+  some_removed m k q apart h = subst IsSome (sym (get-remove o m k q ∙ stays (eq_by_cmp R q k) _ (λ e. apart (same_key same q k e)))) h
+
   pub some_inserted : (m : FinMap R X) (k : K) (v : X) (q : K) → IsSome (fin.get m q) → IsSome (fin.get (fin.insert m k v) q)
   some_inserted m k v q h = subst IsSome (sym (get-insert o m k v q)) (still_some (eq_by_cmp R q k) v _ h)
 
   -- where no key passes a test, none at which something is found does
   pub no_key_passes : (p : K → Bool) (m : FinMap R X) → length (filter p (fin.keys m)) ≡ 0 → Each (λ q _. p q ≡ false) m
   no_key_passes p m none q x found = fails_each same p (fin.keys m) q none (sym (contains_key-keys m q) ∙ ap is_some found)
+
+  -- a key at which something is found is among the keys that pass a test exactly where it passes
+  pub among_passing : (p : K → Bool) (m : FinMap R X) (q : K) (x : X) → fin.get m q ≡ Some x → list_any (eq_by_cmp R q) (filter p (fin.keys m)) ≡ p q
+  among_passing p m q x found = any-filter_same (eq_by_cmp R q) p (p q) (λ k e. ap p (sym (same_key same q k e))) (fin.keys m)
+      ∙ ap (λ b. p q && b) (sym (contains_key-keys m q) ∙ ap is_some found) ∙ and_true (p q)

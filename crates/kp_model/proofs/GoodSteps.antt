@@ -9,6 +9,7 @@ use Rattle.kp_model.specs.LogEntry.{LogEntry}
 use Rattle.kp_model.specs.declared.session.Session.{Session}
 use Rattle.kp_model.specs.declared.entry.Body.{Body}
 use Rattle.kp_model.specs.declared.entry.Body.TheVariants as body
+use Rattle.kp_model.specs.declared.command.Op.{Op}
 use Rattle.kp_model.specs.declared.command.Op.TheVariants as op
 use Rattle.kp_model.specs.declared.command.Cmd.{Cmd}
 use Rattle.kp_model.specs.declared.command.Cmd.TheVariants as cmd
@@ -16,9 +17,9 @@ use Rattle.kp_model.specs.Grammar.{is_number, is_timeout, is_origin, is_body, is
 use Rattle.kp_model.specs.Path.{is_well_formed}
 use Rattle.kp_model.specs.Fixed.{fixed}
 use Rattle.kp_model.specs.State.{State}
-use Rattle.kp_model.specs.Step.{shown_id, act, with_seq, written_by, take_body, apply}
+use Rattle.kp_model.specs.Step.{shown_id, act_on, act, with_seq, written_by, take_body, apply}
 use Rattle.kp_model.specs.Store.{after}
-use Rattle.kp_model.specs.Good.{IsGood, IsSound}
+use Rattle.kp_model.specs.Good.{HasDistinctHolders, IsGood, IsSound}
 use Rattle.kp_model.proofs.Maps.{some_inserted}
 use Rattle.kp_model.proofs.Applied.{applied-apply}
 use Rattle.kp_model.proofs.GoodParts.{raised_good, session_set_good}
@@ -26,7 +27,7 @@ use Rattle.kp_model.proofs.GoodNodes.{both, unless_good, set_acl_good, act_on_go
 use Rattle.kp_model.proofs.GoodClosing.{closed_good}
 use Rattle.kp_model.proofs.GoodMulti.{multi_good}
 use Rattle.kp_model.proofs.GoodSessions.{chosen_good, opened_good, attached_good, expired_good, shows_good, with_seq_good}
-use Rattle.kp_model.proofs.Holders.{apply_holders}
+use Rattle.kp_model.proofs.Holders.{act_on_sessions, apply_holders}
 
 -- ---- commands
 
@@ -85,6 +86,15 @@ pub apply_sound : (s : State) (e : LogEntry) → IsTrue (is_entry e) → s.appli
 apply_sound s e entry room sound = record {
   good = apply_good s e entry room sound.good;
   holders = apply_holders s e sound.holders;
+}
+
+-- ---- operations
+
+pub act_on_sound : (s : State) (session : ℕ) (ids : List (List ℕ)) (t : ℕ) (o : Op) → IsTrue (is_number t) → IsTrue (fits_op o) → IsSome (map.get s.sessions session)
+    → IsSound s → IsSound (act_on s session ids s.applied t o).state
+act_on_sound s session ids t o time fits lives sound = record {
+  good = act_on_good s session ids t o time fits lives sound.good;
+  holders = subst HasDistinctHolders (sym (act_on_sessions s session ids s.applied t o)) sound.holders;
 }
 
 -- ---- replay

@@ -1,10 +1,12 @@
 //! Laws of the definitions. The contract of each function is a law; the function does nothing.
-ghost use Rattle.std.specs.Prelude.{◌≡◌, ◌<◌, ◌≤◌, ◌+◌, List, length, IsTrue};
+ghost use Rattle.std.specs.Prelude.{◌≡◌, ◌<◌, ◌≤◌, ◌+◌, ℕ, List, length, IsTrue, IsSome};
 ghost use Rattle.std.specs.List.{list_all};
+ghost use Rattle.std.specs.FinMap as map;
 ghost use Rattle.kp_model.specs.LogEntry.{LogEntry};
-ghost use Rattle.kp_model.specs.Grammar.{is_entry};
+ghost use Rattle.kp_model.specs.declared.command.Op.{Op};
+ghost use Rattle.kp_model.specs.Grammar.{is_number, is_entry, fits_op};
 ghost use Rattle.kp_model.specs.State.{State, empty};
-ghost use Rattle.kp_model.specs.Step.{apply};
+ghost use Rattle.kp_model.specs.Step.{apply, act_on};
 ghost use Rattle.kp_model.specs.Store.{after};
 ghost use Rattle.kp_model.specs.Good.{HasDistinctHolders, IsGood, IsSound};
 
@@ -20,6 +22,12 @@ pub fn entries_raise_the_index()
 pub fn entries_keep_states_sound()
     ensures good { (s : State) (e : LogEntry) → IsTrue (is_entry e) → s.applied < 4611686018427387904 → IsGood s → IsGood (apply s e).state }
     ensures holders { (s : State) (e : LogEntry) → HasDistinctHolders s.sessions → HasDistinctHolders (apply s e).state.sessions }
+{}
+
+/// Each operation of a live session that can be written down keeps a sound state sound. It is what a multi is made of.
+pub fn operations_keep_states_sound()
+    ensures sound { (s : State) (session : ℕ) (ids : List (List ℕ)) (t : ℕ) (o : Op) → IsTrue (is_number t) → IsTrue (fits_op o) → IsSome (map.get s.sessions session) → IsSound s → IsSound (act_on s session ids s.applied t o).state }
+    ensures sessions { (s : State) (session : ℕ) (ids : List (List ℕ)) (i t : ℕ) (o : Op) → (act_on s session ids i t o).state.sessions ≡ s.sessions }
 {}
 
 /// The empty state is sound, and so is what a replay makes of a sound state.

@@ -15,7 +15,8 @@ use Rattle.kp_model.specs.Step.{changed, without_child, shrunk, shrunk_by, close
 use Rattle.kp_model.specs.Good.{IsPersistent, IsGood}
 use Rattle.kp_model.proofs.Maps.{Each, each_inserted, left_there, among_passing}
 use Rattle.kp_model.proofs.GoodParts.{path_cmp-IsAntisymmetric, HasNoChild, session_removed_good}
-use Rattle.kp_model.proofs.GoodNodes.{both, shrunk_good}
+use Rattle.kp_model.proofs.GoodLists.{both}
+use Rattle.kp_model.proofs.GoodNodes.{shrunk_good}
 
 -- ---- the nodes that a session owns
 

@@ -29,6 +29,7 @@ blank_numbers = record {
   aversion = zero-le;
   created = zero-le;
   bytes = refl;
+  perms = refl;
 }
 
 empty_good : IsGood empty

@@ -11,7 +11,8 @@ use Rattle.kp_model.specs.State.{State}
 use Rattle.kp_model.specs.Step.{Outcome, replies, act_on, error_of, op_reply, failure, stop_at, multi}
 use Rattle.kp_model.specs.Good.{IsGood}
 use Rattle.kp_model.proofs.Applied.{acted_on}
-use Rattle.kp_model.proofs.GoodNodes.{both, act_on_good}
+use Rattle.kp_model.proofs.GoodLists.{both}
+use Rattle.kp_model.proofs.GoodNodes.{act_on_good}
 use Rattle.kp_model.proofs.Holders.{act_on_sessions}
 
 stop_good : (o : Option ℤ) (failed : ℤ → Outcome) (rest : Outcome) → ((e : ℤ) → IsGood (failed e).state) → IsGood rest.state → IsGood (stop_at o failed rest).state

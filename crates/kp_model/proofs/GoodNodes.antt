@@ -1,6 +1,7 @@
 -- Commands on nodes keep a good state good.
-use Rattle.std.proofs.Common.{◌≡◌, ℕ, ◌+◌, ◌==◌, Bool, true, false, not, ◌&&◌, cond, length, List, [], Option, Some, None, is_some, IsTrue, IsSome, refl, sym, ap, subst, ◌∙◌, true≢false, zero-le, arith, leb-false, eqb-true}
+use Rattle.std.proofs.Common.{◌≡◌, ℕ, ◌+◌, ◌==◌, Bool, true, false, not, cond, length, List, [], Option, Some, None, is_some, IsTrue, IsSome, refl, sym, ap, subst, ◌∙◌, true≢false, zero-le, arith, leb-false, eqb-true}
 use Rattle.std.specs.Prelude.{ℤ, nat_le, unwrap_or}
+use Rattle.std.specs.List.{list_all}
 use Rattle.std.specs.Str.{bytes_eq}
 use Rattle.std.specs.Cmp.Lexicographic.{nat_list_cmp_total}
 use Rattle.std.specs.FinMap as map
@@ -14,8 +15,9 @@ use Rattle.kp_model.specs.Path.{root, parent, is_well_formed}
 use Rattle.kp_model.specs.State.{State, Nodes, Sessions, children, is_child}
 use Rattle.kp_model.specs.Fixed.{fixed}
 use Rattle.kp_model.specs.Step.{Outcome, unless, rises, is_ephemeral, owner_of, new_node, with_child, without_child, with_data, with_acl, changed, parent_fails, place_fails, list_fails, create_fails, made_path, grown, created, is_version, may_delete, removal_fails, delete_fails, shrunk, deleted, set, set_acl, act_on}
-use Rattle.kp_model.specs.Good.{IsCount, IsPersistent, HasParent, HasNumbers, IsGood}
+use Rattle.kp_model.specs.Good.{has_perms, IsCount, IsPersistent, HasParent, HasNumbers, IsGood}
 use Rattle.kp_model.proofs.Maps.{Finds, Each, same_value, no_value, get_inserted, each_inserted}
+use Rattle.kp_model.proofs.GoodLists.{both, fixed_within}
 use Rattle.kp_model.proofs.GoodParts.{path_cmp-IsAntisymmetric, node_set_good, HasNoChild, no_child, node_removed_good}
 
 -- ---- checks that all passed
@@ -31,10 +33,6 @@ last_passes false x e = absurd (no_value x e)
 holds : (b : Bool) → not b ≡ false → b ≡ true
 holds true e = refl
 holds false e = absurd (true≢false e)
-
-pub both : (a b : Bool) → (a && b) ≡ true → (a ≡ true) × (b ≡ true)
-both true b e = (refl, e)
-both false b e = absurd (true≢false (sym e))
 
 -- where a command fails, the state stays, and else it is the outcome's
 pub unless_good : (e : Option ℤ) (s : State) (o : Outcome) → IsGood s → (e ≡ None → IsGood o.state) → IsGood (unless e s o).state
@@ -62,6 +60,7 @@ with_child_numbers i n h = record {
   aversion = h.aversion;
   created = rises_count n.created;
   bytes = h.bytes;
+  perms = h.perms;
 }
 
 without_child_numbers : (i : ℕ) (n : Node) → HasNumbers i n → HasNumbers i (without_child i n)
@@ -76,6 +75,7 @@ without_child_numbers i n h = record {
   aversion = h.aversion;
   created = h.created;
   bytes = h.bytes;
+  perms = h.perms;
 }
 
 with_data_numbers : (i t : ℕ) (bytes : List ℕ) → IsTrue (is_number t) → IsTrue (is_text bytes)
@@ -91,10 +91,11 @@ with_data_numbers i t bytes time fits n h = record {
   aversion = h.aversion;
   created = h.created;
   bytes = fits;
+  perms = h.perms;
 }
 
-with_acl_numbers : (i : ℕ) (acl : List Acl) (n : Node) → HasNumbers i n → HasNumbers i (with_acl acl n)
-with_acl_numbers i acl n h = record {
+with_acl_numbers : (i : ℕ) (acl : List Acl) → IsTrue (list_all has_perms acl) → (n : Node) → HasNumbers i n → HasNumbers i (with_acl acl n)
+with_acl_numbers i acl within n h = record {
   czxid = h.czxid;
   mzxid = h.mzxid;
   pzxid = h.pzxid;
@@ -105,10 +106,11 @@ with_acl_numbers i acl n h = record {
   aversion = rises_count n.aversion;
   created = h.created;
   bytes = h.bytes;
+  perms = within;
 }
 
-new_numbers : (i t : ℕ) (bytes : List ℕ) (acl : List Acl) (owner : ℕ) → IsTrue (is_number t) → IsTrue (is_text bytes) → HasNumbers i (new_node i t bytes acl owner)
-new_numbers i t bytes acl owner time fits = record {
+new_numbers : (i t : ℕ) (bytes : List ℕ) (acl : List Acl) (owner : ℕ) → IsTrue (is_number t) → IsTrue (is_text bytes) → IsTrue (list_all has_perms acl) → HasNumbers i (new_node i t bytes acl owner)
+new_numbers i t bytes acl owner time fits within = record {
   czxid = omega arith;
   mzxid = omega arith;
   pzxid = omega arith;
@@ -119,6 +121,7 @@ new_numbers i t bytes acl owner time fits = record {
   aversion = zero-le;
   created = zero-le;
   bytes = fits;
+  perms = within;
 }
 
 -- ---- a node is changed that keeps its owner
@@ -184,15 +187,15 @@ owner_lives m session true lives owned = lives
 owner_lives m session false lives owned = absurd (true≢false owned)
 
 created_good : (s : State) (t : ℕ) (path bytes : List ℕ) (acl : List Acl) (session flags : ℕ) (with_stat : Bool)
-    → IsTrue (is_number t) → IsTrue (is_text bytes) → IsSome (map.get s.sessions session) → MayCreate s.nodes path
+    → IsTrue (is_number t) → IsTrue (is_text bytes) → IsTrue (list_all has_perms acl) → IsSome (map.get s.sessions session) → MayCreate s.nodes path
     → IsGood s → IsGood (created s s.applied t path bytes acl (owner_of session flags) with_stat).state
 unfolding created grown
-created_good s t path bytes acl session flags with_stat time fits lives may good =
+created_good s t path bytes acl session flags with_stat time fits within lives may good =
     node_set_good (record s { nodes = changed (with_child s.applied) (parent path) (map.get s.nodes (parent path)) s.nodes }) path (new_node s.applied t bytes acl (owner_of session flags))
     (λ x there _. absurd (free_changed (with_child s.applied) (parent path) path s.nodes _ refl may.absent path x there refl))
     (λ _. (may.formed, parent_stays s.applied (parent path) s.nodes _ may.parent_there.0 may.parent_there.1 may.parent_there.2))
     (owner_lives s.sessions session (is_ephemeral flags) lives)
-    (new_numbers s.applied t bytes acl (owner_of session flags) time fits)
+    (new_numbers s.applied t bytes acl (owner_of session flags) time fits within)
     (changed_good s (with_child s.applied) (parent path) _ refl (λ _. refl) (with_child_numbers s.applied) good)
 
 -- ---- Delete
@@ -241,9 +244,9 @@ set_good s t path bytes time fits good = changed_good s (with_data s.applied t b
 
 -- ---- SetAcl
 
-pub set_acl_good : (s : State) (path : List ℕ) (acl : List Acl) → IsGood s → IsGood (set_acl s path acl).state
+pub set_acl_good : (s : State) (path : List ℕ) (acl : List Acl) → IsTrue (list_all has_perms acl) → IsGood s → IsGood (set_acl s path acl).state
 unfolding set_acl
-set_acl_good s path acl good = changed_good s (with_acl acl) path _ refl (λ _. refl) (with_acl_numbers s.applied acl) good
+set_acl_good s path acl within good = changed_good s (with_acl acl) path _ refl (λ _. refl) (with_acl_numbers s.applied acl within) good
 
 -- ---- operations
 
@@ -253,7 +256,7 @@ pub act_on_good : (s : State) (session : ℕ) (ids : List (List ℕ)) (t : ℕ) 
 act_on_good s session ids t (op.Create path bytes acl flags with_stat) time fits lives good =
     let parts = both (is_text path) _ fits in
     let rest = both (is_text bytes) _ parts.1 in
-    unless_good _ s _ good (λ e. created_good s t (made_path s.nodes path flags) bytes (unwrap_or (fixed ids acl) []) session flags with_stat time rest.0 lives
+    unless_good _ s _ good (λ e. created_good s t (made_path s.nodes path flags) bytes (unwrap_or (fixed ids acl) []) session flags with_stat time rest.0 (fixed_within ids acl) lives
     (creation_facts s.nodes ids (made_path s.nodes path flags) flags acl e) good)
 act_on_good s session ids t (op.Delete path version) time fits lives good = unless_good _ s _ good (λ e. deleted_good s path (deletion_facts s.nodes ids path version e) good)
 act_on_good s session ids t (op.SetData path bytes version) time fits lives good =

@@ -31,6 +31,7 @@ numbers_raised a b n le h = record {
   aversion = h.aversion;
   created = h.created;
   bytes = h.bytes;
+  perms = h.perms;
 }
 
 pub raised_good : (s : State) → s.applied < 4611686018427387904 → IsGood s → IsGood (record s { applied = s.applied + 1 })

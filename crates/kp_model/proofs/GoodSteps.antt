@@ -23,7 +23,8 @@ use Rattle.kp_model.specs.Good.{HasDistinctHolders, IsGood, IsSound}
 use Rattle.kp_model.proofs.Maps.{some_inserted}
 use Rattle.kp_model.proofs.Applied.{applied-apply}
 use Rattle.kp_model.proofs.GoodParts.{raised_good, session_set_good}
-use Rattle.kp_model.proofs.GoodNodes.{both, unless_good, set_acl_good, act_on_good}
+use Rattle.kp_model.proofs.GoodLists.{both, fixed_within}
+use Rattle.kp_model.proofs.GoodNodes.{unless_good, set_acl_good, act_on_good}
 use Rattle.kp_model.proofs.GoodClosing.{closed_good}
 use Rattle.kp_model.proofs.GoodMulti.{multi_good}
 use Rattle.kp_model.proofs.GoodSessions.{chosen_good, opened_good, attached_good, expired_good, shows_good, with_seq_good}
@@ -43,7 +44,7 @@ unfolding act
 act_good s session ids t (cmd.Create path bytes acl flags with_stat) time fits lives good = act_on_good s session ids t (op.Create path bytes acl flags with_stat) time fits lives good
 act_good s session ids t (cmd.Delete path version) time fits lives good = act_on_good s session ids t (op.Delete path version) time fits lives good
 act_good s session ids t (cmd.SetData path bytes version) time fits lives good = act_on_good s session ids t (op.SetData path bytes version) time fits lives good
-act_good s session ids t (cmd.SetAcl path acl version) time fits lives good = unless_good _ s _ good (λ _. set_acl_good s path (unwrap_or (fixed ids acl) []) good)
+act_good s session ids t (cmd.SetAcl path acl version) time fits lives good = unless_good _ s _ good (λ _. set_acl_good s path (unwrap_or (fixed ids acl) []) (fixed_within ids acl) good)
 act_good s session ids t (cmd.Check path version) time fits lives good = act_on_good s session ids t (op.Check path version) time fits lives good
 act_good s session ids t (cmd.Auth scheme auth) time fits lives good = shows_good s session (shown_id scheme auth) good
 act_good s session ids t (cmd.Multi ops) time fits lives good =

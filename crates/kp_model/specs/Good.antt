@@ -1,7 +1,9 @@
 -- States that a run can reach: a tree, sessions that are numbered, and numbers within their limits.
-use Rattle.std.specs.Prelude.{◌≡◌, ℕ, false, ◌==◌, ◌≤◌, ◌<◌, IsTrue, IsSome, List, length, Some}
+use Rattle.std.specs.Prelude.{◌≡◌, ℕ, Bool, false, ◌==◌, ◌≤◌, ◌<◌, nat_le, IsTrue, IsSome, List, length, Some}
+use Rattle.std.specs.List.{list_all}
 use Rattle.std.specs.Str.{bytes_eq}
 use Rattle.std.specs.FinMap as map
+use Rattle.kp_model.specs.declared.node.Acl.{Acl}
 use Rattle.kp_model.specs.declared.node.Node.{Node}
 use Rattle.kp_model.specs.declared.session.Session.{Session}
 use Rattle.kp_model.specs.Grammar.{is_number, is_timeout, is_origin, is_length}
@@ -24,11 +26,15 @@ HasParent nodes p = (up : Node) × (map.get nodes (parent p) ≡ Some up) × IsP
 abbrev pub HasPlace : Nodes → List ℕ → Type 0
 HasPlace nodes p = bytes_eq p root ≡ false → IsTrue (is_well_formed p) × HasParent nodes p
 
+-- an access line with no other right than the five
+abbrev pub has_perms : Acl → Bool
+has_perms a = nat_le a.perms 31
+
 -- a count of 31 bits
 abbrev pub IsCount : ℕ → Type 0
 IsCount n = n ≤ 2147483647
 
--- the numbers of a node: indexes that were applied, times and counts within their limits, data that fits
+-- the numbers of a node: indexes that were applied, times, counts and rights within their limits, data that fits
 pub record HasNumbers (applied : ℕ) (n : Node) : Type 0 where
   pub czxid : n.czxid ≤ applied
   pub mzxid : n.mzxid ≤ applied
@@ -40,6 +46,7 @@ pub record HasNumbers (applied : ℕ) (n : Node) : Type 0 where
   pub aversion : IsCount n.aversion
   pub created : IsCount n.created
   pub bytes : IsTrue (is_length (length n.bytes))
+  pub perms : IsTrue (list_all has_perms n.acl)
 
 -- a session: its number was given out, and its numbers are within their limits
 pub record IsGoodSession (next id : ℕ) (x : Session) : Type 0 where

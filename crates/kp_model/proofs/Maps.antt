@@ -25,6 +25,7 @@ picked : {X : Type 0} (P : X → Type 0) (b : Bool) (v : X) (old : Option X) (x 
 picked P true v old x new keeps found = subst P (same_value v x found) (new refl)
 picked P false v old x new keeps found = keeps found
 
+-- after a removal one finds what was there, at another key
 left : {X : Type 0} (b : Bool) (old : Option X) (x : X) → cond b None old ≡ Some x → (b ≡ false) × (old ≡ Some x)
 left true old x found = absurd (no_value x (sym found))
 left false old x found = (refl, found)
@@ -109,7 +110,6 @@ module _ {K X : Type 0} {R : K → K → Ordering} (o : IsTotalOrder R) (same : 
   each_inserted P m k v new keeps q x found =
       picked (P q) (eq_by_cmp R q k) v (fin.get m q) x (λ e. subst (λ j. P j v) (sym (same_key same q k e)) new) (keeps q x) (sym (get-insert o m k v q) ∙ found)
 
-  -- what is found after a removal was there, at another key
   pub left_there : (m : FinMap R X) (k q : K) (x : X) → fin.get (fin.remove m k) q ≡ Some x → (eq_by_cmp R q k ≡ false) × (fin.get m q ≡ Some x)
   left_there m k q x found = left (eq_by_cmp R q k) _ x (sym (get-remove o m k q) ∙ found)
 

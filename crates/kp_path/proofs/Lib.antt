@@ -1,2 +1,3 @@
 pub mod Slashes
 pub mod Digits
+pub mod Numbered

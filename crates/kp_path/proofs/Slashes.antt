@@ -7,7 +7,7 @@ use Rattle.std.proofs.lemmas.List.{take_more, length-take-le}
 use Rattle.kp_model.specs.Path.{last_slash}
 
 -- one place further, or none
-abbrev further : ℕ → Option ℕ → Option ℕ
+abbrev pub further : ℕ → Option ℕ → Option ℕ
 further x None = if x == 47 then Some 0 else None
 further x (Some i) = Some (i + 1)
 

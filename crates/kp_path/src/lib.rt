@@ -2,7 +2,7 @@
 //! that is made with a running number.
 #![tactic(auto)]
 
-ghost use Rattle.std.specs.Prelude.{◌≡◌, ◌+◌, ◌==◌, ◌&&◌, not, false, IsTrue, IfOk, IfSome, MatchResult, option_copied, if◌then◌else◌, length};
+ghost use Rattle.std.specs.Prelude.{◌≡◌, ℕ, ◌<◌, ◌^◌, ◌+◌, ◌==◌, ◌&&◌, not, false, IsTrue, IfOk, IfSome, MatchResult, option_copied, if◌then◌else◌, length};
 ghost use Rattle.std.specs.Str.{bytes_eq};
 ghost use Rattle.std.specs.List.{list_all, slice_split};
 ghost use Rattle.kp_model.specs.Path as paths;
@@ -58,6 +58,14 @@ pub fn sequence_name(alloc: Global, path: &str, created: u32) -> Result<Text, No
     ensures ten { IfOk result (λ name. length name ≡ length path.now + 10) }
 {
     Ok(Text::from_string(format!(in alloc; "{path}{created:010}")?))
+}
+
+/// The path of the parent under which a node is made with a running number: the same for each number, so that the
+/// number can be taken from it.
+pub fn sequence_parent(path: &str) -> &str
+    ensures { (n : ℕ) → n < 2 ^ 32 → result.now ≡ paths.parent (sequenced path.now n) }
+{
+    before(path, last_slash(path.as_bytes()))
 }
 
 // What stands before a slash at this place, or the root where that is nothing.

@@ -1,4 +1,4 @@
-use crate::{BadPath, check, name, parent, sequence_name};
+use crate::{BadPath, check, name, parent, sequence_name, sequence_parent};
 
 const GOOD: [&str; 6] = ["/", "/a", "/a/b", "/a.b/...", "/.a", "/é"];
 
@@ -38,5 +38,13 @@ fn a_running_number_has_ten_digits(rt: HostRuntime) {
     for (path, created, name) in expected {
         let made = sequence_name(rt.alloc(), path, created).expect(&rt, "memory");
         assert_eq!(rt; made.as_str(), name);
+    }
+}
+
+#[test]
+fn the_parent_of_a_node_with_a_running_number(rt: HostRuntime) {
+    let expected = [("/a", "/"), ("/a/", "/a"), ("/", "/"), ("/a/b", "/a"), ("", "/")];
+    for (path, up) in expected {
+        assert_eq!(rt; sequence_parent(path), up);
     }
 }

@@ -1,9 +1,12 @@
 -- The changes of a plan, set in their order.
-use Rattle.std.proofs.Common.{◌≡◌, ℕ, true, ◌&&◌, List, [], ◌∷◌, ◌++◌, length, Option, Some, None, refl, ap, sym, subst, ◌∙◌}
+use Rattle.std.proofs.Common.{◌≡◌, ℕ, true, ◌&&◌, List, [], ◌∷◌, ◌++◌, length, Option, Some, None, refl, ap, sym, subst, ◌∙◌, append_assoc}
 use Rattle.std.specs.Prelude.{Result, Ok, Err, IfOk, IsTrue}
-use Rattle.std.specs.List.{list_all}
+use Rattle.std.specs.List.{All, list_all, flat_map}
+use Rattle.std.proofs.lemmas.List.Concat.{flat_map-cons}
+use Rattle.std.proofs.lemmas.List.Elements.{All-head, All-tail}
 use Rattle.std.proofs.lemmas.List.Folds.{list_all-append}
 use Rattle.std.specs.FinMap as map
+use Rattle.kp_layers.specs.Overlay.{put}
 use Rattle.kp_model.specs.declared.node.Acl.{Acl}
 use Rattle.kp_model.specs.declared.node.Meta.{Meta}
 use Rattle.kp_model.specs.declared.node.Node.{Node}
@@ -22,8 +25,10 @@ use Rattle.kp_prep.specs.declared.deciding.Decided.{Decided}
 use Rattle.kp_prep.specs.declared.plan.Effect.{Effect}
 use Rattle.kp_prep.specs.declared.plan.Effect.TheVariants as effect
 use Rattle.kp_prep.specs.declared.plan.Plan.{Plan}
-use Rattle.kp_prep.specs.Changing.{set_one, set_all, fits_change, renumbered_value, refilled_value, node_changes, effect_changes, session_changes, next_changes, plan_changes}
-use Rattle.kp_prep.specs.Effects.{IsPlan, FitsData, effected, effected_nodes, renewed, next_after}
+use Rattle.kp_prep.specs.Changing.{session_set, set_one, set_all, fits_change, renumbered_value, refilled_value, relisted_value, node_changes, effect_changes, session_changes, next_changes}
+use Rattle.kp_prep.specs.Effects.{FitsData, effected, effected_nodes}
+use Rattle.kp_prep.specs.Plans.{IsPlan, plan_changes, settled, next_after}
+use Rattle.kp_prep.specs.Several.{effected_by, effected_nodes_by, effects_changes}
 use Rattle.kp_prep.proofs.Seen.{absent, present}
 
 -- no list is lent where there is no node
@@ -52,15 +57,31 @@ refilled_again nodes p b bytes m same e =
     ∙ (λ j. Some (record { bytes = (same ∙ found.2) j; acl = found.0.acl; meta = m }))
     ∙ sym (ap (renumbered_value m) found.1)
 
+-- no data is lent where there is no node
+pub relisted_none : (nodes : Nodes) (p : List ℕ) (acl : List Acl) (m : Meta) → None ≡ bytes_at nodes p → None ≡ relisted_value acl m (map.get nodes p)
+unfolding bytes_at
+relisted_none nodes p acl m e = sym (ap (relisted_value acl m) (absent (λ (n : Node). n.bytes) (map.get nodes p) e))
+
+-- the data that is lent is the node's
+pub relisted_some : (nodes : Nodes) (p b bytes : List ℕ) (acl : List Acl) (m : Meta) → b ≡ bytes → Some bytes ≡ bytes_at nodes p → Some (record { bytes = b; acl = acl; meta = m }) ≡ relisted_value acl m (map.get nodes p)
+unfolding bytes_at
+relisted_some nodes p b bytes acl m same e =
+    let found = present (λ (n : Node). n.bytes) (map.get nodes p) bytes e in
+    (λ j. Some (record { bytes = (same ∙ found.2) j; acl = acl; meta = m })) ∙ sym (ap (relisted_value acl m) found.1)
+
 set_append : (s : State) (a b : List Change) → set_all s (a ++ b) ≡ set_all (set_all s a) b
 unfolding set_all
 set_append s [] b = refl
 set_append s (c ∷ a) b = set_append (set_one s c) a b
 
-session_all : (s : State) (x : Option (ℕ × Session)) → set_all s (session_changes x) ≡ record s { sessions = renewed s.sessions x }
+session_one : (s : State) (id : ℕ) (x : Option Session) → session_set s id x ≡ record s { sessions = put s.sessions id x }
+session_one s id None = refl
+session_one s id (Some x) = refl
+
+session_all : (s : State) (x : Option (ℕ × Option Session)) → set_all s (session_changes x) ≡ record s { sessions = settled s.sessions x }
 unfolding set_all
 session_all s None = refl
-session_all s (Some x) = refl
+session_all s (Some x) = session_one s x.0 x.1
 
 next_all : (s : State) (n : Option ℕ) → set_all s (next_changes n) ≡ record s { next = next_after s.next n }
 unfolding set_all
@@ -78,43 +99,71 @@ unfolding set_all
 refilled_all s q bytes m None = refl
 refilled_all s q bytes m (Some n) = refl
 
+relisted_all : (s : State) (q : List ℕ) (acl : List Acl) (m : Meta) (o : Option Node) → set_all s (node_changes q (relisted_value acl m o)) ≡ record s { nodes = changed (λ n. node_of n.bytes acl m) q o s.nodes }
+unfolding set_all
+relisted_all s q acl m None = refl
+relisted_all s q acl m (Some n) = refl
+
 effect_all : (s : State) (e : Effect) → set_all s (effect_changes s.nodes e) ≡ record s { nodes = effected_nodes s.nodes e }
 unfolding set_all
 effect_all s effect.Nothing = refl
 effect_all s (effect.Make path bytes acl meta up) = up_then s (parent path) up (map.get s.nodes (parent path)) (change.Node path (Some (record { bytes = bytes; acl = acl; meta = meta })))
 effect_all s (effect.Remove path up owner) = up_then s (parent path) up (map.get s.nodes (parent path)) (change.Node path None)
 effect_all s (effect.Set path bytes meta) = refilled_all s path bytes meta (map.get s.nodes path)
+effect_all s (effect.SetAcl path acl meta) = relisted_all s path acl meta (map.get s.nodes path)
+
+-- the changes of effects, each on the nodes after those before it
+effects_all : (s : State) (es : List Effect) → set_all s (effects_changes s.nodes es) ≡ record s { nodes = effected_nodes_by s.nodes es }
+unfolding effects_changes effected_nodes_by set_all
+effects_all s [] = refl
+effects_all s (e ∷ es) =
+    set_append s (effect_changes s.nodes e) (effects_changes (effected_nodes s.nodes e) es)
+    ∙ ap (λ z. set_all z (effects_changes (effected_nodes s.nodes e) es)) (effect_all s e)
+    ∙ effects_all (record s { nodes = effected_nodes s.nodes e }) es
 
 effected_sessions : (q : Parts) (e : Effect) → (effected q e).sessions ≡ q.sessions
 effected_sessions q effect.Nothing = refl
 effected_sessions q (effect.Make path bytes acl meta up) = refl
 effected_sessions q (effect.Remove path up owner) = refl
 effected_sessions q (effect.Set path bytes meta) = refl
+effected_sessions q (effect.SetAcl path acl meta) = refl
 
 effected_next : (q : Parts) (e : Effect) → (effected q e).next ≡ q.next
 effected_next q effect.Nothing = refl
 effected_next q (effect.Make path bytes acl meta up) = refl
 effected_next q (effect.Remove path up owner) = refl
 effected_next q (effect.Set path bytes meta) = refl
+effected_next q (effect.SetAcl path acl meta) = refl
+
+effected_sessions_by : (q : Parts) (es : List Effect) → (effected_by q es).sessions ≡ q.sessions
+unfolding effected_by
+effected_sessions_by q [] = refl
+effected_sessions_by q (e ∷ es) = effected_sessions_by (effected q e) es ∙ effected_sessions q e
+
+effected_next_by : (q : Parts) (es : List Effect) → (effected_by q es).next ≡ q.next
+unfolding effected_by
+effected_next_by q [] = refl
+effected_next_by q (e ∷ es) = effected_next_by (effected q e) es ∙ effected_next q e
 
 -- the changes of what an entry does make of a state the one behind it, but for the applied index
 pub changes_set : (k : Touched) (s : State) (o : Outcome) (p : Plan) → IsPlan k s o p → set_all s (plan_changes s.nodes p) ≡ record o.state { applied = s.applied }
 unfolding parts_of
 changes_set k s o p h =
-    let r : Sessions = renewed s.sessions p.session in
+    let r : Sessions = settled s.sessions p.session in
     let n : ℕ = next_after s.next p.next in
     let z : State = record s { sessions = r; next = n } in
     let q : Parts = record (parts_of s) { sessions = r; next = n } in
-    let e : List Change = effect_changes s.nodes p.effect in
+    let e : List Change = flat_map (effect_changes s.nodes) p.effects in
     set_append s (session_changes p.session ++ next_changes p.next) e
     ∙ ap (λ x. set_all x e) (set_append s (session_changes p.session) (next_changes p.next)
     ∙ ap (λ x. set_all x (next_changes p.next)) (session_all s p.session)
     ∙ next_all (record s { sessions = r }) p.next)
-    ∙ effect_all z p.effect
+    ∙ ap (set_all z) (sym h.told)
+    ∙ effects_all z p.effects
     ∙ (λ j. record {
       nodes = h.nodes j;
-      sessions = (sym (effected_sessions q p.effect) ∙ ap (λ (x : Parts). x.sessions) h.parts) j;
-      next = (sym (effected_next q p.effect) ∙ ap (λ (x : Parts). x.next) h.parts) j;
+      sessions = (sym (effected_sessions_by q p.effects) ∙ ap (λ (x : Parts). x.sessions) h.parts) j;
+      next = (sym (effected_next_by q p.effects) ∙ ap (λ (x : Parts). x.next) h.parts) j;
       applied = s.applied;
     })
 
@@ -131,7 +180,7 @@ decided_sets (Err f) k s o p h e = tt
 all_fit : (a b : List Change) → IsTrue (list_all fits_change a) → IsTrue (list_all fits_change b) → IsTrue (list_all fits_change (a ++ b))
 all_fit a b p q = list_all-append fits_change a b ∙ (λ j. p j && q j)
 
-session_fits : (x : Option (ℕ × Session)) → IsTrue (list_all fits_change (session_changes x))
+session_fits : (x : Option (ℕ × Option Session)) → IsTrue (list_all fits_change (session_changes x))
 session_fits None = refl
 session_fits (Some x) = refl
 
@@ -150,16 +199,38 @@ refilled_fits : (q bytes : List ℕ) (m : Meta) (o : Option Node) → IsTrue (is
 refilled_fits q bytes m None h = refl
 refilled_fits q bytes m (Some n) h = ap (λ b. b && true) h
 
+-- a node that has another list has the data that it had
+relisted_fits : (s : State) → IsGood s → (q : List ℕ) (acl : List Acl) (m : Meta) → IsTrue (list_all fits_change (node_changes q (relisted_value acl m (map.get s.nodes q))))
+relisted_fits s good q acl m = cases (map.get s.nodes q) refl where
+  cases : (o : Option Node) → map.get s.nodes q ≡ o → IsTrue (list_all fits_change (node_changes q (relisted_value acl m o)))
+  cases None e = refl
+  cases (Some n) e = ap (λ b. b && true) (good.numbers q n e).bytes
+
 effect_fits : (s : State) → IsGood s → (e : Effect) → FitsData e → IsTrue (list_all fits_change (effect_changes s.nodes e))
 effect_fits s good effect.Nothing h = refl
 effect_fits s good (effect.Make path bytes acl meta up) h = all_fit (node_changes (parent path) (renumbered_value up (map.get s.nodes (parent path)))) (change.Node path (Some (record { bytes = bytes; acl = acl; meta = meta })) ∷ []) (renumbered_fits s good (parent path) up) (ap (λ b. b && true) h)
 effect_fits s good (effect.Remove path up owner) h = all_fit (node_changes (parent path) (renumbered_value up (map.get s.nodes (parent path)))) (change.Node path None ∷ []) (renumbered_fits s good (parent path) up) refl
 effect_fits s good (effect.Set path bytes meta) h = refilled_fits path bytes meta (map.get s.nodes path) h
+effect_fits s good (effect.SetAcl path acl meta) h = relisted_fits s good path acl meta
 
-plan_fits : (s : State) → IsGood s → (p : Plan) → FitsData p.effect → IsTrue (list_all fits_change (plan_changes s.nodes p))
-plan_fits s good p h = all_fit (session_changes p.session ++ next_changes p.next) (effect_changes s.nodes p.effect) (all_fit (session_changes p.session) (next_changes p.next) (session_fits p.session) (next_fits p.next)) (effect_fits s good p.effect h)
+-- the changes of one effect more are pushed
+pub pushed_more : (nodes : Nodes) (old new : List Change) (e : Effect) (es rest : List Effect) → es ≡ e ∷ rest → new ≡ old ++ effect_changes nodes e → new ++ flat_map (effect_changes nodes) rest ≡ old ++ flat_map (effect_changes nodes) es
+pushed_more nodes old new e es rest is pushed =
+    ap (λ cs. cs ++ flat_map (effect_changes nodes) rest) pushed
+    ∙ append_assoc old (effect_changes nodes e) (flat_map (effect_changes nodes) rest)
+    ∙ ap (λ cs. old ++ cs) (sym (flat_map-cons (effect_changes nodes) e rest))
+    ∙ ap (λ xs. old ++ flat_map (effect_changes nodes) xs) (sym is)
+
+effects_fit : (s : State) → IsGood s → (es : List Effect) → All FitsData es → IsTrue (list_all fits_change (flat_map (effect_changes s.nodes) es))
+effects_fit s good [] h = refl
+effects_fit s good (e ∷ es) h =
+    ap (list_all fits_change) (flat_map-cons (effect_changes s.nodes) e es)
+    ∙ all_fit (effect_changes s.nodes e) (flat_map (effect_changes s.nodes) es) (effect_fits s good e (All-head FitsData e es h)) (effects_fit s good es (All-tail FitsData e es h))
+
+plan_fits : (s : State) → IsGood s → (p : Plan) → All FitsData p.effects → IsTrue (list_all fits_change (plan_changes s.nodes p))
+plan_fits s good p h = all_fit (session_changes p.session ++ next_changes p.next) (flat_map (effect_changes s.nodes) p.effects) (all_fit (session_changes p.session) (next_changes p.next) (session_fits p.session) (next_fits p.next)) (effects_fit s good p.effects h)
 
 -- the data of what was decided fits
-pub decided_fits : {E : Type 0} (r : Result Decided E) (s : State) (p : Plan) → IsGood s → FitsData p.effect → IfOk r (λ d. d.changes ≡ plan_changes s.nodes p) → IfOk r (λ d. IsTrue (list_all fits_change d.changes))
+pub decided_fits : {E : Type 0} (r : Result Decided E) (s : State) (p : Plan) → IsGood s → All FitsData p.effects → IfOk r (λ d. d.changes ≡ plan_changes s.nodes p) → IfOk r (λ d. IsTrue (list_all fits_change d.changes))
 decided_fits (Ok d) s p good h e = subst (λ cs. IsTrue (list_all fits_change cs)) (sym e) (plan_fits s good p h)
 decided_fits (Err f) s p good h e = tt

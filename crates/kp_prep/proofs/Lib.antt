@@ -6,6 +6,10 @@ pub mod Seen
 pub mod Acts
 pub mod Within
 pub mod Changes
+pub mod Leaves
+pub mod Removals
+pub mod Drafted
 pub mod Plans
+pub mod Closed
 pub mod Carried
 pub mod Root

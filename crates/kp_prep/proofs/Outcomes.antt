@@ -9,11 +9,11 @@ use Rattle.kp_model.specs.State.{State, Nodes, children, meta_of, stat}
 use Rattle.kp_cells.specs.Mapped.{mapped, chosen}
 use Rattle.kp_cells.specs.Parts.{parts_of}
 use Rattle.kp_cells.proofs.Maps.{picked, mapped-insert, mapped-remove, mapped-over, chosen-insert, chosen-over, chosen-remove}
-use Rattle.kp_prep.specs.Effects.{effected, disowned}
+use Rattle.kp_prep.specs.Effects.{effected, owned_by, disowned}
 use Rattle.kp_prep.specs.declared.plan.Effect.TheVariants as effect
 use Rattle.kp_prep.proofs.Paths.{path_total, path_same, own_parent_apart}
 use Rattle.kp_prep.proofs.Kids.{IsRooted, count-over, count_up-made, count_path-made, count_else-made, count_up-gone, count_else-gone}
-use Rattle.kp_prep.proofs.Owners.{owner_in, owners_of, get-owners, owners-over, owners-remove, remove-absent}
+use Rattle.kp_prep.proofs.Owners.{owner_in, owners_of, get-owners, owners-over, owners-insert, owners-remove, remove-absent}
 
 -- what is shown of a node depends on the number of its children alone
 stat-same : (a b : Nodes) (p : List ℕ) (n : Node) → length (children a p) ≡ length (children b p) → stat a p n ≡ stat b p n
@@ -43,7 +43,7 @@ module _ (s : State) (path : List ℕ) (u v : Node) (has_parent : map.get s.node
   part_up f same = mapped-over path_total path_same (λ _ (n : Node). f n) (λ _ (n : Node). f n) s.nodes (parent path) u v has_parent same (λ _ _ _. refl)
 
   -- a node is made
-  module _ (w : Node) (unowned : w.owner ≡ 0) (rooted : IsRooted s.nodes) (free : map.get s.nodes path ≡ None) where
+  module _ (w : Node) (rooted : IsRooted s.nodes) (free : map.get s.nodes path ≡ None) where
     abbrev made : Nodes
     made = map.insert up path w
 
@@ -65,8 +65,12 @@ module _ (s : State) (path : List ℕ) (u v : Node) (has_parent : map.get s.node
     still_free : map.get up path ≡ None
     still_free = map.get-insert path_total s.nodes (parent path) v path ∙ ap (λ b. cond b (Some v) (map.get s.nodes path)) (own_parent_apart path not_root) ∙ free
 
-    owners-made : owners_of made ≡ owners_of s.nodes
-    owners-made = owners-over up path w (ap (λ o. cond (not (o == 0)) (Some o) None) unowned ∙ sym (ap owner_in still_free)) ∙ owner_up s.nodes (parent path) u v has_parent same_owner
+    owners-set : (b : Bool) → (w.owner == 0) ≡ b → owners_of made ≡ cond b (owners_of up) (map.insert (owners_of up) path w.owner)
+    owners-set true e = owners-over up path w (ap (λ c. cond (not c) (Some w.owner) None) e ∙ sym (ap owner_in still_free))
+    owners-set false e = owners-insert up path w e
+
+    owners-made : owners_of made ≡ owned_by (owners_of s.nodes) w.owner path
+    owners-made = owners-set (w.owner == 0) refl ∙ ap (λ z. owned_by z w.owner path) (owner_up s.nodes (parent path) u v has_parent same_owner)
 
     pub parts-made : parts_of (record s { nodes = made }) ≡ effected (parts_of s) (effect.Make path w.bytes w.acl (meta_of 0 w) (meta_of (length (children s.nodes (parent path)) + 1) v))
     unfolding parts_of
@@ -116,8 +120,8 @@ module _ (s : State) (path : List ℕ) (u v : Node) (has_parent : map.get s.node
       next = s.next;
     }
 
--- the data of a node is set
-module _ (s : State) (path : List ℕ) (n v : Node) (there : map.get s.nodes path ≡ Some n) (same_acl : v.acl ≡ n.acl) (same_owner : v.owner ≡ n.owner) where
+-- the data or the list of a node is set
+module _ (s : State) (path : List ℕ) (n v : Node) (there : map.get s.nodes path ≡ Some n) where
   abbrev changed : Nodes
   changed = map.insert s.nodes path v
 
@@ -126,12 +130,24 @@ module _ (s : State) (path : List ℕ) (n v : Node) (there : map.get s.nodes pat
       mapped-insert path_total path_same (stat s.nodes) (stat changed) s.nodes path v (λ q h x. stat-same changed s.nodes q x (count-over s.nodes path n v q there))
       ∙ ap (map.insert (mapped (stat s.nodes) s.nodes) path) (stat-count changed path v _ (count-over s.nodes path n v path there))
 
-  pub parts-set : parts_of (record s { nodes = changed }) ≡ effected (parts_of s) (effect.Set path v.bytes (meta_of (length (children s.nodes path)) v))
+  pub parts-set : v.acl ≡ n.acl → v.owner ≡ n.owner → parts_of (record s { nodes = changed }) ≡ effected (parts_of s) (effect.Set path v.bytes (meta_of (length (children s.nodes path)) v))
   unfolding parts_of
-  parts-set = λ j. record {
+  parts-set same_acl same_owner = λ j. record {
     metas = metas-set j;
     contents = mapped-insert path_total path_same (λ _ (n : Node). n.bytes) (λ _ (n : Node). n.bytes) s.nodes path v (λ _ _ _. refl) j;
     acls = mapped-over path_total path_same (λ _ (n : Node). n.acl) (λ _ (n : Node). n.acl) s.nodes path n v there same_acl (λ _ _ _. refl) j;
+    children = kept_up s.nodes path n v there j;
+    owners = owner_up s.nodes path n v there same_owner j;
+    sessions = s.sessions;
+    next = s.next;
+  }
+
+  pub parts-relisted : v.bytes ≡ n.bytes → v.owner ≡ n.owner → parts_of (record s { nodes = changed }) ≡ effected (parts_of s) (effect.SetAcl path v.acl (meta_of (length (children s.nodes path)) v))
+  unfolding parts_of
+  parts-relisted same_bytes same_owner = λ j. record {
+    metas = metas-set j;
+    contents = mapped-over path_total path_same (λ _ (n : Node). n.bytes) (λ _ (n : Node). n.bytes) s.nodes path n v there same_bytes (λ _ _ _. refl) j;
+    acls = mapped-insert path_total path_same (λ _ (n : Node). n.acl) (λ _ (n : Node). n.acl) s.nodes path v (λ _ _ _. refl) j;
     children = kept_up s.nodes path n v there j;
     owners = owner_up s.nodes path n v there same_owner j;
     sessions = s.sessions;

@@ -44,6 +44,17 @@ owners-over nodes k v same = map.same_map path_total path_same _ _ (λ q.
       over q true e = same ∙ ap (λ z. owner_in (map.get nodes z)) (sym (e refl))
       over q false e = refl
 
+-- a node that has an owner is set
+pub owners-insert : (nodes : Nodes) (k : List ℕ) (v : Node) → (v.owner == 0) ≡ false → owners_of (map.insert nodes k v) ≡ map.insert (owners_of nodes) k v.owner
+owners-insert nodes k v has = map.same_map path_total path_same _ _ (λ q.
+    get-owners (map.insert nodes k v) q
+    ∙ ap owner_in (map.get-insert path_total nodes k v q)
+    ∙ set (eq_by_cmp path_cmp q k) (map.get nodes q)
+    ∙ sym (map.get-insert path_total (owners_of nodes) k v.owner q ∙ ap (cond (eq_by_cmp path_cmp q k) (Some v.owner)) (get-owners nodes q))) where
+      set : (b : Bool) (r : Option Node) → owner_in (cond b (Some v) r) ≡ cond b (Some v.owner) (owner_in r)
+      set true r = ap (λ c. cond (not c) (Some v.owner) None) has
+      set false r = refl
+
 without : (b : Bool) (r : Option Node) → owner_in (cond b None r) ≡ cond b None (owner_in r)
 without true r = refl
 without false r = refl

@@ -91,3 +91,8 @@ own_parent_apart q h = decide (eq_by_cmp path_cmp q (parent q)) refl where
   decide : (b : Bool) → eq_by_cmp path_cmp q (parent q) ≡ b → b ≡ false
   decide false e = refl
   decide true e = no (is_child q q) (not_own_parent q h) (ap (λ z. is_child z q) (tied path_same q (parent q) e) ∙ own_child q h)
+
+-- the root is its own parent
+pub root_above : (q : List ℕ) → bytes_eq q root ≡ true → root ≡ parent q
+unfolding parent last_slash
+root_above q h = ap parent (sym (equals q root h))

@@ -1,6 +1,6 @@
 -- What the checks of the commands come to, from what a view lends.
-use Rattle.std.proofs.Common.{◌≡◌, ℕ, Bool, true, false, not, List, length, min, Option, Some, None, is_some, refl, ap, sym, ◌∙◌, arith}
-use Rattle.std.specs.Prelude.{◌==◌, unwrap_or, if◌then◌else◌}
+use Rattle.std.proofs.Common.{◌≡◌, ℕ, Bool, true, false, not, ◌&&◌, List, length, min, Option, Some, None, is_some, refl, ap, sym, ◌∙◌, arith}
+use Rattle.std.specs.Prelude.{ℤ, ◌==◌, nat_le, unwrap_or, if◌then◌else◌}
 use Rattle.std.specs.Option.{option_map, option_map_or}
 use Rattle.std.specs.Str.{bytes_eq}
 use Rattle.std.specs.FinMap as map
@@ -8,11 +8,12 @@ use Rattle.std.proofs.lemmas.Bool.Decides.{Decides-eqb}
 use Rattle.kp_model.specs.declared.node.Acl.{Acl}
 use Rattle.kp_model.specs.declared.node.Meta.{Meta}
 use Rattle.kp_model.specs.declared.node.Node.{Node}
-use Rattle.kp_model.specs.Errors.{bad_arguments, no_auth, no_node, bad_version, not_empty, no_children_for_ephemerals, node_exists}
+use Rattle.kp_model.specs.Errors.{bad_arguments, invalid_acl, no_auth, no_node, bad_version, not_empty, no_children_for_ephemerals, node_exists}
+use Rattle.kp_model.specs.Fixed.{fixed}
 use Rattle.kp_model.specs.Path.{root, parent, is_well_formed}
 use Rattle.kp_model.specs.Rights.{is_allowed}
 use Rattle.kp_model.specs.State.{Nodes, stat, meta_at, acl_at, children}
-use Rattle.kp_model.specs.Step.{is_version, parent_fails, create_fails, removal_fails, delete_fails, node_fails, version_fails}
+use Rattle.kp_model.specs.Step.{is_version, ever_had, parent_fails, list_fails, place_fails, create_fails, owner_fails, set_acl_fails, removal_fails, delete_fails, node_fails, version_fails}
 use Rattle.kp_cells.proofs.Maps.{no, not_some}
 use Rattle.kp_prep.specs.Effects.{IsChildPath}
 use Rattle.kp_prep.specs.Looks.{has_right, room_fails, leave_fails, change_fails}
@@ -35,12 +36,25 @@ pub meta_some : (nodes : Nodes) (p : List ℕ) (m : Meta) → Some m ≡ meta_at
 unfolding meta_at
 meta_some nodes p m e = present (stat nodes p) (map.get nodes p) m e
 
+-- the numbers of a node are lent
+pub meta_there : (nodes : Nodes) (p : List ℕ) (n : Node) → map.get nodes p ≡ Some n → meta_at nodes p ≡ Some (stat nodes p n)
+unfolding meta_at
+meta_there nodes p n e = ap (option_map (stat nodes p)) e
+
 pub meta_absent : (nodes : Nodes) (p : List ℕ) → is_some (map.get nodes p) ≡ false → meta_at nodes p ≡ None
 unfolding meta_at
 meta_absent nodes p e = cases (map.get nodes p) e where
   cases : (o : Option Node) → is_some o ≡ false → option_map (stat nodes p) o ≡ None
   cases None e = refl
   cases (Some n) e = no true e refl
+
+-- how many children a node ever had, from the numbers that are lent
+pub none_made : (nodes : Nodes) (p : List ℕ) → None ≡ meta_at nodes p → 0 ≡ ever_had (map.get nodes p)
+none_made nodes p e = sym (ap ever_had (meta_none nodes p e))
+
+pub some_made : (nodes : Nodes) (p : List ℕ) (m : Meta) → Some m ≡ meta_at nodes p → m.created ≡ ever_had (map.get nodes p)
+unfolding stat
+some_made nodes p m e = let s = meta_some nodes p m e in ap (λ (x : Meta). x.created) s.2 ∙ sym (ap ever_had s.1)
 
 right_on : (ids : List (List ℕ)) (perm : ℕ) (o : Option Node) → option_map_or (λ (a : List Acl). is_allowed ids a perm) (option_map (λ (n : Node). n.acl) o) false ≡ has_right o ids perm
 right_on ids perm None = refl
@@ -57,28 +71,20 @@ is_root true x e = refl
 is_root false x e = absurd (not_some (sym e))
 
 module _ (nodes : Nodes) (ids : List (List ℕ)) (path : List ℕ) where
-  pub create_malformed : is_well_formed path ≡ false → create_fails nodes ids path ≡ Some bad_arguments
-  unfolding create_fails
-  create_malformed h = ap (λ b. if not b then Some bad_arguments else (if bytes_eq path root then Some node_exists else parent_fails ids (map.get nodes (parent path)) (map.get nodes path))) h
+  pub place_root : bytes_eq path root ≡ true → place_fails nodes ids path ≡ Some node_exists
+  place_root r = ap (λ b. if b then Some node_exists else parent_fails ids (map.get nodes (parent path)) (map.get nodes path)) r
 
-  create_formed : is_well_formed path ≡ true → create_fails nodes ids path ≡ (if bytes_eq path root then Some node_exists else parent_fails ids (map.get nodes (parent path)) (map.get nodes path))
-  unfolding create_fails
-  create_formed h = ap (λ b. if not b then Some bad_arguments else (if bytes_eq path root then Some node_exists else parent_fails ids (map.get nodes (parent path)) (map.get nodes path))) h
+  place_child : IsChildPath path → place_fails nodes ids path ≡ parent_fails ids (map.get nodes (parent path)) (map.get nodes path)
+  place_child h = ap (λ b. if b then Some node_exists else parent_fails ids (map.get nodes (parent path)) (map.get nodes path)) h.1
 
-  pub create_root : is_well_formed path ≡ true → bytes_eq path root ≡ true → create_fails nodes ids path ≡ Some node_exists
-  create_root h r = create_formed h ∙ ap (λ b. if b then Some node_exists else parent_fails ids (map.get nodes (parent path)) (map.get nodes path)) r
+  pub place_no_parent : IsChildPath path → map.get nodes (parent path) ≡ None → place_fails nodes ids path ≡ Some no_node
+  place_no_parent h none = place_child h ∙ ap (λ o. parent_fails ids o (map.get nodes path)) none
 
-  create_child : IsChildPath path → create_fails nodes ids path ≡ parent_fails ids (map.get nodes (parent path)) (map.get nodes path)
-  create_child h = create_formed h.0 ∙ ap (λ b. if b then Some node_exists else parent_fails ids (map.get nodes (parent path)) (map.get nodes path)) h.1
-
-  pub create_no_parent : IsChildPath path → map.get nodes (parent path) ≡ None → create_fails nodes ids path ≡ Some no_node
-  create_no_parent h none = create_child h ∙ ap (λ o. parent_fails ids o (map.get nodes path)) none
-
-  pub create_under : (up : List ℕ) (m : Meta) → up ≡ parent path → IsChildPath path → Some m ≡ meta_at nodes up → create_fails nodes ids path ≡ room_fails (has_right (map.get nodes up) ids 4) m.owner (is_some (map.get nodes path))
+  pub place_under : (up : List ℕ) (m : Meta) → up ≡ parent path → IsChildPath path → Some m ≡ meta_at nodes up → place_fails nodes ids path ≡ room_fails (has_right (map.get nodes up) ids 4) m.owner (is_some (map.get nodes path))
   unfolding stat
-  create_under up m is h seen =
+  place_under up m is h seen =
       let s = meta_some nodes up m seen in
-      create_child h
+      place_child h
       ∙ ap (λ p. parent_fails ids (map.get nodes p) (map.get nodes path)) (sym is)
       ∙ ap (λ o. parent_fails ids o (map.get nodes path)) s.1
       ∙ ap (λ (x : Meta). room_fails (has_right (Some s.0) ids 4) x.owner (is_some (map.get nodes path))) (sym s.2)
@@ -103,6 +109,56 @@ module _ (nodes : Nodes) (ids : List (List ℕ)) (path : List ℕ) where
       ∙ ap (node_fails ids perm version) s.1
       ∙ ap (λ (x : Meta). change_fails (has_right (Some s.0) ids perm) version x.version) (sym s.2)
       ∙ ap (λ o. change_fails (has_right o ids perm) version m.version) (sym s.1)
+
+  pub owner_none : (version : ℕ) → map.get nodes path ≡ None → owner_fails ids version (map.get nodes path) ≡ Some no_node
+  owner_none version none = ap (owner_fails ids version) none
+
+  pub owner_there : (version : ℕ) (m : Meta) → Some m ≡ meta_at nodes path → owner_fails ids version (map.get nodes path) ≡ change_fails (has_right (map.get nodes path) ids 16) version m.aversion
+  unfolding stat
+  owner_there version m seen =
+      let s = meta_some nodes path m seen in
+      ap (owner_fails ids version) s.1
+      ∙ ap (λ (x : Meta). change_fails (has_right (Some s.0) ids 16) version x.aversion) (sym s.2)
+      ∙ ap (λ o. change_fails (has_right o ids 16) version m.aversion) (sym s.1)
+
+both : (a b : Bool) → (a && b) ≡ true → (a ≡ true) × (b ≡ true)
+both true b h = (refl, h)
+both false b h = no true (sym h) refl
+
+-- a path that is none, or flags that are none
+misnamed : (a b : Bool) (next : Option ℤ) → (a && b) ≡ false → (if not a then Some bad_arguments else (if not b then Some bad_arguments else next)) ≡ Some bad_arguments
+misnamed true b next h = ap (λ b. if not b then Some bad_arguments else next) h
+misnamed false b next h = refl
+
+named : (a b : Bool) (next : Option ℤ) → (a && b) ≡ true → (if not a then Some bad_arguments else (if not b then Some bad_arguments else next)) ≡ next
+named a b next h = λ i. if not ((both a b h).0 i) then Some bad_arguments else (if not ((both a b h).1 i) then Some bad_arguments else next)
+
+module _ (nodes : Nodes) (ids : List (List ℕ)) (path : List ℕ) (acl : List Acl) where
+  pub creation_misnamed : (flags : ℕ) → (is_well_formed path && nat_le flags 3) ≡ false → create_fails nodes ids path flags acl ≡ Some bad_arguments
+  unfolding create_fails
+  creation_misnamed flags h = misnamed (is_well_formed path) (nat_le flags 3) _ h
+
+  pub creation_unlisted : (flags : ℕ) → (is_well_formed path && nat_le flags 3) ≡ true → None ≡ fixed ids acl → create_fails nodes ids path flags acl ≡ Some invalid_acl
+  unfolding create_fails
+  creation_unlisted flags h none = named (is_well_formed path) (nat_le flags 3) _ h ∙ ap (λ o. list_fails o (place_fails nodes ids path)) (sym none)
+
+  pub creation_listed : (flags : ℕ) (kept : List Acl) → (is_well_formed path && nat_le flags 3) ≡ true → Some kept ≡ fixed ids acl → create_fails nodes ids path flags acl ≡ place_fails nodes ids path
+  unfolding create_fails
+  creation_listed flags kept h is = named (is_well_formed path) (nat_le flags 3) _ h ∙ ap (λ o. list_fails o (place_fails nodes ids path)) (sym is)
+
+  pub list_misnamed : (version : ℕ) → is_well_formed path ≡ false → set_acl_fails nodes ids path acl version ≡ Some bad_arguments
+  unfolding set_acl_fails
+  list_misnamed version h = ap (λ b. if not b then Some bad_arguments else list_fails (fixed ids acl) (owner_fails ids version (map.get nodes path))) h
+
+  list_named : (version : ℕ) → is_well_formed path ≡ true → set_acl_fails nodes ids path acl version ≡ list_fails (fixed ids acl) (owner_fails ids version (map.get nodes path))
+  unfolding set_acl_fails
+  list_named version h = ap (λ b. if not b then Some bad_arguments else list_fails (fixed ids acl) (owner_fails ids version (map.get nodes path))) h
+
+  pub list_refused : (version : ℕ) → is_well_formed path ≡ true → None ≡ fixed ids acl → set_acl_fails nodes ids path acl version ≡ Some invalid_acl
+  list_refused version h none = list_named version h ∙ ap (λ o. list_fails o (owner_fails ids version (map.get nodes path))) (sym none)
+
+  pub list_taken : (version : ℕ) (kept : List Acl) → is_well_formed path ≡ true → Some kept ≡ fixed ids acl → set_acl_fails nodes ids path acl version ≡ owner_fails ids version (map.get nodes path)
+  list_taken version kept h is = list_named version h ∙ ap (λ o. list_fails o (owner_fails ids version (map.get nodes path))) (sym is)
 
 alike : (x y : Bool) → (x ≡ true → y ≡ true) → (y ≡ true → x ≡ true) → x ≡ y
 alike true true f g = refl

@@ -1,7 +1,8 @@
--- Changes that are set in a state, and those of a plan.
+-- Changes that are set in a state, and those of an effect.
 use Rattle.std.specs.Prelude.{ℕ, Bool, true, List, [], ◌∷◌, ◌++◌, length, Option, Some, None}
 use Rattle.std.specs.Option.{option_map}
 use Rattle.std.specs.FinMap as map
+use Rattle.kp_model.specs.declared.node.Acl.{Acl}
 use Rattle.kp_model.specs.declared.node.Meta.{Meta}
 use Rattle.kp_model.specs.declared.node.Node.{Node}
 use Rattle.kp_model.specs.declared.session.Session.{Session}
@@ -14,7 +15,6 @@ use Rattle.kp_cells.specs.declared.change.Change.{Change}
 use Rattle.kp_cells.specs.declared.change.Change.TheVariants as change
 use Rattle.kp_prep.specs.declared.plan.Effect.{Effect}
 use Rattle.kp_prep.specs.declared.plan.Effect.TheVariants as effect
-use Rattle.kp_prep.specs.declared.plan.Plan.{Plan}
 
 -- the state with the node at a path set, or without it
 abbrev pub node_set : State → List ℕ → Option NodeValue → State
@@ -56,6 +56,10 @@ renumbered_value m o = option_map (λ n. record { bytes = n.bytes; acl = n.acl; 
 abbrev pub refilled_value : List ℕ → Meta → Option Node → Option NodeValue
 refilled_value bytes m o = option_map (λ n. record { bytes = bytes; acl = n.acl; meta = m }) o
 
+-- a node with another list and numbers, where there is one
+abbrev pub relisted_value : List Acl → Meta → Option Node → Option NodeValue
+relisted_value acl m o = option_map (λ n. record { bytes = n.bytes; acl = acl; meta = m }) o
+
 -- a node is set, where there is a value for it
 abbrev pub node_changes : List ℕ → Option NodeValue → List Change
 node_changes p None = []
@@ -69,17 +73,14 @@ effect_changes nodes (effect.Make path bytes acl meta up) =
 effect_changes nodes (effect.Remove path up owner) =
     node_changes (parent path) (renumbered_value up (map.get nodes (parent path))) ++ change.Node path None ∷ []
 effect_changes nodes (effect.Set path bytes meta) = node_changes path (refilled_value bytes meta (map.get nodes path))
+effect_changes nodes (effect.SetAcl path acl meta) = node_changes path (relisted_value acl meta (map.get nodes path))
 
--- the change of a session that is set
-abbrev pub session_changes : Option (ℕ × Session) → List Change
+-- the change of a session that is set, or that goes
+abbrev pub session_changes : Option (ℕ × Option Session) → List Change
 session_changes None = []
-session_changes (Some x) = change.Session x.0 (Some x.1) ∷ []
+session_changes (Some x) = change.Session x.0 x.1 ∷ []
 
 -- the change of the next session number
 abbrev pub next_changes : Option ℕ → List Change
 next_changes None = []
 next_changes (Some n) = change.NextSession n ∷ []
-
--- the changes of a plan on these nodes
-abbrev pub plan_changes : Nodes → Plan → List Change
-plan_changes nodes p = (session_changes p.session ++ next_changes p.next) ++ effect_changes nodes p.effect

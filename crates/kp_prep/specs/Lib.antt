@@ -3,3 +3,7 @@ pub mod Touching
 pub mod Effects
 pub mod Staged
 pub mod Changing
+pub mod Several
+pub mod Plans
+pub mod Drafts
+pub mod Closing

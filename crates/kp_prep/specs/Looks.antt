@@ -1,10 +1,17 @@
 -- The checks of the commands over what a view lends.
-use Rattle.std.specs.Prelude.{ℕ, ℤ, Bool, false, not, ◌==◌, List, Option, Some, None, if◌then◌else◌}
+use Rattle.std.specs.Prelude.{◌≡◌, ℕ, ℤ, Bool, false, not, ◌==◌, List, Option, Some, None, if◌then◌else◌}
 use Rattle.std.specs.Option.{option_map_or}
+use Rattle.std.specs.FinMap as map
 use Rattle.kp_model.specs.declared.node.Node.{Node}
 use Rattle.kp_model.specs.Errors.{no_auth, bad_version, no_children_for_ephemerals, node_exists, not_empty}
 use Rattle.kp_model.specs.Rights.{is_allowed}
 use Rattle.kp_model.specs.Step.{is_version}
+use Rattle.kp_model.specs.Good.{HasPlace}
+use Rattle.kp_model.specs.State.{Nodes}
+
+-- each node but the root is at a path with a parent that may have children
+abbrev pub HavePlaces : Nodes → Type 0
+HavePlaces nodes = (p : List ℕ) (n : Node) → map.get nodes p ≡ Some n → HasPlace nodes p
 
 -- whether a node is there that gives the right
 abbrev pub has_right : Option Node → List (List ℕ) → ℕ → Bool

@@ -64,8 +64,9 @@ IsEffectAmong ps effect.Nothing = Unit {0}
 IsEffectAmong ps (effect.Make path bytes acl meta up) = IsFamilyAmong ps path
 IsEffectAmong ps (effect.Remove path up owner) = IsFamilyAmong ps path
 IsEffectAmong ps (effect.Set path bytes meta) = IsTrue (is_among ps path)
+IsEffectAmong ps (effect.SetAcl path acl meta) = IsTrue (is_among ps path)
 
--- a session that is set is one of these
-abbrev pub IsSessionAmong : List ℕ → Option (ℕ × Session) → Type 0
+-- a session that is set or goes is one of these
+abbrev pub IsSessionAmong : List ℕ → Option (ℕ × Option Session) → Type 0
 IsSessionAmong ids None = Unit {0}
 IsSessionAmong ids (Some x) = IsTrue (is_one_of ids x.0)

@@ -1,58 +1,104 @@
-//! What a command of a session does.
+//! What a command on one node does.
 
-ghost use Rattle.std.specs.Prelude.{◌≡◌, [], ◌∷◌, ◌-◌, Some, min, length, IfOk, IsTrue};
-ghost use Rattle.kp_model.specs.Grammar.{is_length, fits_cmd};
-ghost use Rattle.kp_model.specs.Good.{IsSound};
-ghost use Rattle.kp_model.specs.Path.{parent};
+ghost use Rattle.std.specs.Prelude.{◌≡◌, [], ◌∷◌, ◌-◌, Some, min, length, unwrap_or, IfOk, IsTrue};
+ghost use Rattle.std.specs.FinMap as map;
+ghost use Rattle.kp_model.specs.Fixed.{fixed};
+ghost use Rattle.kp_model.specs.Grammar.{is_length, fits_cmd, fits_op};
+ghost use Rattle.kp_model.specs.Path.{parent, is_well_formed};
 ghost use Rattle.kp_model.specs.Rights as right;
-ghost use Rattle.kp_model.specs.State.{meta_at, children};
-ghost use Rattle.kp_model.specs.Step.{unless, created, deleted, set, replies, create_fails, delete_fails, version_fails, rises};
+ghost use Rattle.kp_model.specs.State.{Nodes, meta_at, children};
+ghost use Rattle.kp_model.specs.Step.{unless, deleted, set, synced, replies, delete_fails, version_fails, set_acl_fails, owner_fails, rises};
 ghost use Rattle.kp_model.specs.Step as step;
 ghost use Rattle.kp_model.specs.declared.reply.Reply.TheVariants as reply;
-ghost use Rattle.kp_prep.specs.Effects.{IsAct, IsChildPath, with_child_shown, answered_act, made_act, gone_act, set_act, path_of};
+ghost use Rattle.kp_prep.specs.Effects.{DoesOn, IsChildPath, answered_act, gone_act, set_act, set_acl_act, path_of, path_of_op, is_on_node};
+ghost use Rattle.kp_prep.specs.Looks.{HavePlaces};
 
-use crate::checks::{READ, WRITE, find, may_create, may_remove};
+use crate::checks::{READ, WRITE, find, find_to_own, is_path, list_to_keep, may_remove};
+use crate::creation::create;
+use crate::look::Look;
 use crate::plan::{Act, Effect, Found, Prepared, Stamp};
-use kp_model::{Acls, Bytes, Cmd, Event, Events, Meta, NoMemory, Paths, Reply, Text, View};
+use kp_model::errors::{BAD_ARGUMENTS, INVALID_ACL};
+use kp_model::{Acls, Bytes, Cmd, Event, Events, Meta, NoMemory, Op, Paths, Reply, Text};
 use std::alloc::Global;
 
 /// As many children as are shown.
-const MOST_KIDS: u32 = 2147483647;
+pub(crate) const MOST_KIDS: u32 = 2147483647;
 
-/// What a command of a session with these ids does, at an index and a time.
+/// What a command on one node does, of a session with these ids, at an index and a time.
 #[tactic(auto, unfolding(kp_model::specs::Step::act))]
-pub(crate) fn act<V: View>(
+pub(crate) fn act<L: Look>(
     alloc: Global,
-    view: &V,
+    look: &L,
+    session: u64,
     ids: &Paths,
     stamp: Stamp,
     cmd: &Cmd,
 ) -> Result<Act, NoMemory>
-    requires sound { IsSound (V.state view.now) }
+    requires places { HavePlaces (L.nodes look.now) }
     requires fits { IsTrue (fits_cmd cmd.now) }
-    ensures { IfOk result (IsAct (path_of cmd.now) (V.state view.now) (step.act (V.state view.now) ids.now stamp.index stamp.time cmd.now)) }
+    requires node { IsTrue (is_on_node cmd.now) }
+    ensures { let nodes = L.nodes look.now in IfOk result (DoesOn (path_of nodes cmd.now) nodes (λ s. step.act s session ids.now stamp.index stamp.time cmd.now)) }
 {
     match cmd {
         Cmd::Create {
             path,
             bytes,
             acl,
+            flags,
             stat,
-            ..
-        } => create(alloc, view, ids, stamp, path, bytes, acl, *stat),
-        Cmd::Delete { path, version } => delete(alloc, view, ids, stamp, path, *version),
+        } => create(
+            alloc, look, session, ids, stamp, path, bytes, acl, *flags, *stat,
+        ),
+        Cmd::Delete { path, version } => delete(alloc, look, ids, stamp, path, *version),
         Cmd::SetData {
             path,
             bytes,
             version,
-        } => set_data(alloc, view, ids, stamp, path, bytes, *version),
-        Cmd::Check { path, version } => Ok(check(alloc, view, ids, path, *version)),
-        _ => Ok(answered(alloc, Reply::Stale)),
+        } => set_data(alloc, look, ids, stamp, path, bytes, *version),
+        Cmd::SetAcl { path, acl, version } => set_acl(alloc, look, ids, path, acl, *version),
+        Cmd::Check { path, version } => Ok(check(alloc, look, ids, path, *version)),
+        Cmd::Sync { path } => sync(alloc, path),
+        Cmd::Auth { .. } => unreachable!(),
+        Cmd::Multi { .. } => unreachable!(),
+        Cmd::CloseSession => unreachable!(),
     }
 }
 
-// A reply, and nothing that is done.
-fn answered(alloc: Global, reply: Reply) -> Act
+/// What an operation of a multi does, of a session with these ids, at an index and a time.
+pub(crate) fn act_on<L: Look>(
+    alloc: Global,
+    look: &L,
+    session: u64,
+    ids: &Paths,
+    stamp: Stamp,
+    op: &Op,
+) -> Result<Act, NoMemory>
+    requires places { HavePlaces (L.nodes look.now) }
+    requires fits { IsTrue (fits_op op.now) }
+    ensures { let nodes = L.nodes look.now in IfOk result (DoesOn (path_of_op nodes op.now) nodes (λ s. step.act_on s session ids.now stamp.index stamp.time op.now)) }
+{
+    match op {
+        Op::Create {
+            path,
+            bytes,
+            acl,
+            flags,
+            stat,
+        } => create(
+            alloc, look, session, ids, stamp, path, bytes, acl, *flags, *stat,
+        ),
+        Op::Delete { path, version } => delete(alloc, look, ids, stamp, path, *version),
+        Op::SetData {
+            path,
+            bytes,
+            version,
+        } => set_data(alloc, look, ids, stamp, path, bytes, *version),
+        Op::Check { path, version } => Ok(check(alloc, look, ids, path, *version)),
+    }
+}
+
+/// A reply, and nothing that is done.
+pub(crate) fn answered(alloc: Global, reply: Reply) -> Act
     ensures { result ≡ answered_act reply }
 {
     Act {
@@ -64,107 +110,15 @@ fn answered(alloc: Global, reply: Reply) -> Act
     }
 }
 
-// What a creation does.
-fn create<V: View>(
-    alloc: Global,
-    view: &V,
-    ids: &Paths,
-    stamp: Stamp,
-    path: &Text,
-    bytes: &Bytes,
-    acl: &Acls,
-    stat: bool,
-) -> Result<Act, NoMemory>
-    requires sound { IsSound (V.state view.now) }
-    requires fits { IsTrue (is_length (length bytes.now)) }
-    ensures { let s = V.state view.now in IfOk result (IsAct path.now s (unless (create_fails s.nodes ids.now path.now) s (created s stamp.index stamp.time path.now bytes.now acl.now stat))) }
-{
-    match may_create(view, ids, path.as_str()) {
-        Err(code) => Ok(answered(alloc, Reply::Err(code))),
-        Ok(up) => made(alloc, stamp, path, bytes, acl, stat, up),
-    }
-}
-
-// A node is made under a parent that showed these numbers.
-fn made(
-    alloc: Global,
-    stamp: Stamp,
-    path: &Text,
-    bytes: &Bytes,
-    acl: &Acls,
-    stat: bool,
-    up: Meta,
-) -> Result<Act, NoMemory>
-    requires child { IsChildPath path.now }
-    requires fits { IsTrue (is_length (length bytes.now)) }
-    ensures { IfOk result (λ a. a ≡ made_act stamp.index stamp.time path.now bytes.now acl.now stat up) }
-{
-    let meta = new_meta(stamp, bytes.len() as u32);
-    let reply = if stat {
-        Reply::PathStat(path.copy(alloc)?, meta)
-    } else {
-        Reply::Path(path.copy(alloc)?)
-    };
-    let events = two_events(
-        alloc,
-        Event::Created(path.copy(alloc)?),
-        Event::ChildrenChanged(parent_of(alloc, path.as_str())?),
-    )?;
-    let effect = Effect::Make {
-        path: path.copy(alloc)?,
-        bytes: bytes.copy(alloc)?,
-        acl: acl.copy(alloc)?,
-        meta,
-        up: with_child(stamp.index, up),
-    };
-    Ok(Act {
-        prepared: Prepared { reply, events },
-        effect,
-    })
-}
-
-// The numbers of a new node with data of this length.
-fn new_meta(stamp: Stamp, len: u32) -> Meta
-    ensures { result ≡ record { czxid = stamp.index; mzxid = stamp.index; pzxid = stamp.index; ctime = stamp.time; mtime = stamp.time; version = 0; cversion = 0; aversion = 0; owner = 0; created = 0; len = len; kids = 0 } }
-{
-    Meta {
-        czxid: stamp.index,
-        mzxid: stamp.index,
-        pzxid: stamp.index,
-        ctime: stamp.time,
-        mtime: stamp.time,
-        version: 0,
-        cversion: 0,
-        aversion: 0,
-        owner: 0,
-        created: 0,
-        len,
-        kids: 0,
-    }
-}
-
-// The next value of a count that goes from its limit to 0.
-fn rise(count: u32) -> u32
+/// The next value of a count that goes from its limit to 0.
+pub(crate) fn rise(count: u32) -> u32
     ensures { result ≡ rises count }
 {
     if count >= 2147483647 { 0 } else { count + 1 }
 }
 
-// The numbers of a parent with one child more.
-fn with_child(index: u64, up: Meta) -> Meta
-    ensures { result ≡ with_child_shown index up }
-{
-    Meta {
-        pzxid: index,
-        cversion: rise(up.cversion),
-        created: rise(up.created),
-        kids: up.kids.min(MOST_KIDS - 1) + 1,
-        ..up
-    }
-}
-
-// A list of two events.
-fn two_events(alloc: Global, first: Event, second: Event) -> Result<Events, NoMemory>
+/// A list of two events.
+pub(crate) fn two_events(alloc: Global, first: Event, second: Event) -> Result<Events, NoMemory>
     ensures { IfOk result (λ events. events ≡ first ∷ second ∷ []) }
 {
     let mut events = Events::new(alloc);
@@ -173,66 +127,67 @@ fn two_events(alloc: Global, first: Event, second: Event) -> Result<Events, NoMe
     Ok(events)
 }
 
-// The path of the parent of a path that has one.
-fn parent_of(alloc: Global, path: &str) -> Result<Text, NoMemory>
-    requires { IsChildPath path.now }
+/// The path of the parent; the root is its own.
+pub(crate) fn parent_of(alloc: Global, path: &str) -> Result<Text, NoMemory>
     ensures { IfOk result (λ up. up ≡ parent path.now) }
 {
-    Text::from_str(alloc, kp_path::parent(path).unwrap_or("/"))
+    match kp_path::parent(path) {
+        None => Text::from_str(alloc, "/"),
+        Some(up) => Text::from_str(alloc, up),
+    }
 }
 
 // What a removal does.
-fn delete<V: View>(
+fn delete<L: Look>(
     alloc: Global,
-    view: &V,
+    look: &L,
     ids: &Paths,
     stamp: Stamp,
     path: &Text,
     version: u32,
 ) -> Result<Act, NoMemory>
-    requires sound { IsSound (V.state view.now) }
-    ensures { let s = V.state view.now in IfOk result (IsAct path.now s (unless (delete_fails s.nodes ids.now path.now version) s (deleted s stamp.index path.now))) }
+    requires places { HavePlaces (L.nodes look.now) }
+    ensures { IfOk result (DoesOn path.now (L.nodes look.now) (λ s. unless (delete_fails s.nodes ids.now path.now version) s (deleted s stamp.index path.now))) }
 {
-    match may_remove(view, ids, path.as_str(), version) {
+    match may_remove(look, ids, path.as_str(), version) {
         Err(code) => Ok(answered(alloc, Reply::Err(code))),
-        Ok(found) => remove(alloc, view, stamp, path, found),
+        Ok(found) => remove(alloc, look, stamp, path, found),
     }
 }
 
 // A node is removed that shows these numbers, and its parent those.
-fn remove<V: View>(
+fn remove<L: Look>(
     alloc: Global,
-    view: &V,
+    look: &L,
     stamp: Stamp,
     path: &Text,
     found: Found,
 ) -> Result<Act, NoMemory>
-    requires sound { IsSound (V.state view.now) }
-    requires up { meta_at (V.state view.now).nodes (parent path.now) ≡ Some found.up }
-    requires there { meta_at (V.state view.now).nodes path.now ≡ Some found.meta }
+    requires places { HavePlaces (L.nodes look.now) }
+    requires up { meta_at (L.nodes look.now) (parent path.now) ≡ Some found.up }
+    requires there { meta_at (L.nodes look.now) path.now ≡ Some found.meta }
     requires child { IsChildPath path.now }
-    ensures { let s = V.state view.now in IfOk result (IsAct path.now s (deleted s stamp.index path.now)) }
+    ensures { IfOk result (DoesOn path.now (L.nodes look.now) (λ s. deleted s stamp.index path.now)) }
 {
-    match kids_left(alloc, view, path.as_str(), found.up.kids) {
+    match kids_left(alloc, look, path.as_str(), found.up.kids) {
         Err(refused) => Err(refused),
         Ok(kids) => gone(alloc, stamp.index, path, found, kids),
     }
 }
 
-// How many children the parent of a node shows without it, where it shows so many with it. They are listed
+// How many children the parent of a node shows without it, where it shows so many with it. They are counted
 // only where more than can be shown may be left.
-#[tactic(auto, using(crate::proofs::Acts::kids_counted))]
-fn kids_left<V: View>(alloc: Global, view: &V, path: &str, kids: u32) -> Result<u32, NoMemory>
+fn kids_left<L: Look>(alloc: Global, look: &L, path: &str, kids: u32) -> Result<u32, NoMemory>
     requires child { IsChildPath path.now }
-    requires shown { kids ≡ min (length (children (V.state view.now).nodes (parent path.now))) 2147483647 }
-    ensures { IfOk result (λ left. left ≡ min (length (children (V.state view.now).nodes (parent path.now)) - 1) 2147483647) }
+    requires shown { kids ≡ min (length (children (L.nodes look.now) (parent path.now))) 2147483647 }
+    ensures { IfOk result (λ left. left ≡ min (length (children (L.nodes look.now) (parent path.now)) - 1) 2147483647) }
 {
     if kids < MOST_KIDS {
         return Ok(kids.saturating_sub(1));
     }
     let up = parent_of(alloc, path)?;
-    let names = view.kids(alloc, up.as_str())?;
-    Ok(names.len().saturating_sub(1).min(2147483647) as u32)
+    let count = look.brood(alloc, up.as_str())?;
+    Ok(count.saturating_sub(1).min(2147483647) as u32)
 }
 
 // A node is removed, and its parent shows so many children then.
@@ -265,9 +220,9 @@ fn gone(alloc: Global, index: u64, path: &Text, found: Found, kids: u32) -> Resu
 }
 
 // What setting data does.
-fn set_data<V: View>(
+fn set_data<L: Look>(
     alloc: Global,
-    view: &V,
+    look: &L,
     ids: &Paths,
     stamp: Stamp,
     path: &Text,
@@ -275,9 +230,9 @@ fn set_data<V: View>(
     version: u32,
 ) -> Result<Act, NoMemory>
     requires fits { IsTrue (is_length (length bytes.now)) }
-    ensures { let s = V.state view.now in IfOk result (IsAct path.now s (unless (version_fails s.nodes ids.now right.write path.now version) s (set s stamp.index stamp.time path.now bytes.now))) }
+    ensures { IfOk result (DoesOn path.now (L.nodes look.now) (λ s. unless (version_fails s.nodes ids.now right.write path.now version) s (set s stamp.index stamp.time path.now bytes.now))) }
 {
-    match find(view, ids, WRITE, path.as_str(), version) {
+    match find(look, ids, WRITE, path.as_str(), version) {
         Err(code) => Ok(answered(alloc, Reply::Err(code))),
         Ok(meta) => changed(alloc, stamp, path, bytes, meta),
     }
@@ -318,11 +273,84 @@ fn changed(
 }
 
 // What a check answers.
-fn check<V: View>(alloc: Global, view: &V, ids: &Paths, path: &Text, version: u32) -> Act
-    ensures { let s = V.state view.now in IsAct path.now s (unless (version_fails s.nodes ids.now right.read path.now version) s (replies s reply.Done)) result }
+fn check<L: Look>(alloc: Global, look: &L, ids: &Paths, path: &Text, version: u32) -> Act
+    ensures { DoesOn path.now (L.nodes look.now) (λ s. unless (version_fails s.nodes ids.now right.read path.now version) s (replies s reply.Done)) result }
 {
-    match find(view, ids, READ, path.as_str(), version) {
+    match find(look, ids, READ, path.as_str(), version) {
         Err(code) => answered(alloc, Reply::Err(code)),
         Ok(_) => answered(alloc, Reply::Done),
+    }
+}
+
+// What setting an access list does.
+fn set_acl<L: Look>(
+    alloc: Global,
+    look: &L,
+    ids: &Paths,
+    path: &Text,
+    acl: &Acls,
+    version: u32,
+) -> Result<Act, NoMemory>
+    ensures { IfOk result (DoesOn path.now (L.nodes look.now) (λ s. unless (set_acl_fails s.nodes ids.now path.now acl.now version) s (step.set_acl s path.now (unwrap_or (fixed ids.now acl.now) [])))) }
+{
+    let formed = is_path(path.as_str());
+    if !formed {
+        return Ok(answered(alloc, Reply::Err(BAD_ARGUMENTS)));
+    }
+    match list_to_keep(alloc, ids, acl)? {
+        None => Ok(answered(alloc, Reply::Err(INVALID_ACL))),
+        Some(kept) => keep_list(alloc, look, ids, path, kept, version),
+    }
+}
+
+// What setting this list of a node does.
+fn keep_list<L: Look>(
+    alloc: Global,
+    look: &L,
+    ids: &Paths,
+    path: &Text,
+    acl: Acls,
+    version: u32,
+) -> Result<Act, NoMemory>
+    requires { IsTrue (is_well_formed path.now) }
+    ensures { IfOk result (DoesOn path.now (L.nodes look.now) (λ s. unless (owner_fails ids.now version (map.get s.nodes path.now)) s (step.set_acl s path.now acl))) }
+{
+    match find_to_own(look, ids, path.as_str(), version) {
+        Err(code) => Ok(answered(alloc, Reply::Err(code))),
+        Ok(meta) => listed(alloc, path, acl, meta),
+    }
+}
+
+// The list of a node is set, which showed these numbers.
+fn listed(alloc: Global, path: &Text, acl: Acls, meta: Meta) -> Result<Act, NoMemory>
+    ensures { IfOk result (λ a. a ≡ set_acl_act path.now acl meta) }
+{
+    let meta = Meta {
+        aversion: rise(meta.aversion),
+        ..meta
+    };
+    let effect = Effect::SetAcl {
+        path: path.copy(alloc)?,
+        acl,
+        meta,
+    };
+    Ok(Act {
+        prepared: Prepared {
+            reply: Reply::Stat(meta),
+            events: Events::new(alloc),
+        },
+        effect,
+    })
+}
+
+// What a sync answers.
+fn sync(alloc: Global, path: &Text) -> Result<Act, NoMemory>
+    ensures { (nodes : Nodes) → IfOk result (DoesOn path.now nodes (λ s. synced s path.now)) }
+{
+    let formed = is_path(path.as_str());
+    if formed {
+        Ok(answered(alloc, Reply::Path(path.copy(alloc)?)))
+    } else {
+        Ok(answered(alloc, Reply::Err(BAD_ARGUMENTS)))
     }
 }

@@ -1,16 +1,18 @@
 //! The changes of an entry, as a list.
 
 ghost use Rattle.std.specs.Prelude.{◌≡◌, ◌+◌, ◌++◌, IfOk, OnOk, IsTrue};
-ghost use Rattle.std.specs.List.{list_all};
+ghost use Rattle.std.specs.List.{All, flat_map, list_all};
 ghost use Rattle.std.specs.FinMap as map;
+ghost use Rattle.kp_model.specs.Built.{is_built};
 ghost use Rattle.kp_model.specs.Good.{IsSound};
 ghost use Rattle.kp_model.specs.Path.{parent};
 ghost use Rattle.kp_model.specs.Step.{apply};
-ghost use Rattle.kp_prep.specs.Changing.{set_all, fits_change, plan_changes, session_changes, next_changes, effect_changes, node_changes, renumbered_value, refilled_value};
+ghost use Rattle.kp_prep.specs.Changing.{set_all, fits_change, session_changes, next_changes, effect_changes, node_changes, renumbered_value, refilled_value, relisted_value};
 ghost use Rattle.kp_prep.specs.Effects.{IsFamily, IsFit};
+ghost use Rattle.kp_prep.specs.Plans.{plan_changes};
 
 use crate::entry::plan;
-use crate::plan::{Effect, Plan, Prepared};
+use crate::plan::{Effect, Effects, Plan, Prepared};
 use kp_cells::{Change, Changes, NodeValue};
 use kp_model::{Acl, Acls, Bytes, Entry, Meta, NoMemory, Session, Text, View};
 use std::alloc::Global;
@@ -34,6 +36,7 @@ pub fn decide<V: View>(
 ) -> Result<Decided, NoMemory>
     requires sound { IsSound (V.state view.now) }
     requires next { (V.state view.now).applied + 1 ≡ index }
+    requires built { IsTrue (is_built entry.now.body) }
     ensures reply { IfOk result (λ d. d.prepared.reply ≡ (apply (V.state view.now) entry.now).reply) }
     ensures events { IfOk result (λ d. d.prepared.events ≡ (apply (V.state view.now) entry.now).events) }
     ensures changes { let s = V.state view.now in IfOk result (λ d. set_all s d.changes ≡ record (apply s entry.now).state { applied = s.applied }) }
@@ -45,7 +48,7 @@ pub fn decide<V: View>(
 
 // The answer of a plan, and its changes.
 fn listed<V: View>(alloc: Global, view: &V, plan: Plan) -> Result<Decided, NoMemory>
-    requires fit { IsFit plan.effect }
+    requires fit { All IsFit plan.effects }
     ensures answer { IfOk result (λ d. d.prepared ≡ plan.prepared) }
     ensures changes { IfOk result (λ d. d.changes ≡ plan_changes (V.state view.now).nodes plan) }
 {
@@ -53,22 +56,25 @@ fn listed<V: View>(alloc: Global, view: &V, plan: Plan) -> Result<Decided, NoMem
         prepared,
         session,
         next,
-        effect,
+        effects,
     } = plan;
     let mut changes = Changes::new(alloc);
     push_session(&mut changes, session)?;
     push_next(&mut changes, next)?;
-    push_effect(alloc, view, &mut changes, effect)?;
+    push_effects(alloc, view, &mut changes, effects)?;
     Ok(Decided { prepared, changes })
 }
 
-// Adds the change of a session, where there is one.
-fn push_session(changes: &mut Changes, session: Option<(u64, Session)>) -> Result<(), NoMemory>
+// Adds the change of a session that is set or goes, where there is one.
+fn push_session(
+    changes: &mut Changes,
+    session: Option<(u64, Option<Session>)>,
+) -> Result<(), NoMemory>
     ensures { OnOk result (changes.new ≡ changes.old ++ session_changes session) }
 {
     match session {
         None => Ok(()),
-        Some((id, session)) => changes.push(Change::Session(id, Some(session))),
+        Some((id, session)) => changes.push(Change::Session(id, session)),
     }
 }
 
@@ -80,6 +86,22 @@ fn push_next(changes: &mut Changes, next: Option<u64>) -> Result<(), NoMemory>
         None => Ok(()),
         Some(next) => changes.push(Change::NextSession(next)),
     }
+}
+
+// Adds the changes of effects, each told from the view.
+fn push_effects<V: View>(
+    alloc: Global,
+    view: &V,
+    changes: &mut Changes,
+    effects: Effects,
+) -> Result<(), NoMemory>
+    requires { All IsFit effects }
+    ensures { OnOk result (changes.new ≡ changes.old ++ flat_map (effect_changes (V.state view.now).nodes) effects) }
+{
+    for effect in effects.into_vec() {
+        push_effect(alloc, view, changes, effect)?;
+    }
+    Ok(())
 }
 
 // Adds the changes of an effect.
@@ -110,6 +132,10 @@ fn push_effect<V: View>(
         }
         Effect::Set { path, bytes, meta } => {
             let node = refilled(alloc, view, path.as_str(), bytes, meta)?;
+            push_node(changes, path, node)
+        }
+        Effect::SetAcl { path, acl, meta } => {
+            let node = relisted(alloc, view, path.as_str(), acl, meta)?;
             push_node(changes, path, node)
         }
     }
@@ -178,6 +204,26 @@ fn refilled<V: View>(
         Some(acl) => Ok(Some(NodeValue {
             bytes,
             acl: copied(alloc, acl)?,
+            meta,
+        })),
+    }
+}
+
+// The node at a path with another list and numbers; None where there is none.
+fn relisted<V: View>(
+    alloc: Global,
+    view: &V,
+    path: &str,
+    acl: Acls,
+    meta: Meta,
+) -> Result<Option<NodeValue>, NoMemory>
+    ensures { IfOk result (λ v. v ≡ relisted_value acl meta (map.get (V.state view.now).nodes path.now)) }
+{
+    match view.content(path) {
+        None => Ok(None),
+        Some(bytes) => Ok(Some(NodeValue {
+            bytes: Bytes::from_vec(Vec::from_slice(alloc, bytes)?),
+            acl,
             meta,
         })),
     }

@@ -1,24 +1,25 @@
 //! What an entry does.
 
-ghost use Rattle.std.specs.Prelude.{◌≡◌, ◌+◌, ◌==◌, ◌||◌, ◌&&◌, ◌<◌, ℕ, nat_le, Some, IfOk, IsTrue};
+ghost use Rattle.std.specs.Prelude.{◌≡◌, ◌+◌, ◌==◌, ◌&&◌, ℕ, Some, IfOk, IsTrue};
 ghost use Rattle.std.specs.FinMap as map;
 ghost use Rattle.kp_model.specs.Grammar.{fits_cmd};
+ghost use Rattle.kp_model.specs.Built.{is_built, is_built_cmd};
 ghost use Rattle.kp_model.specs.Good.{IsSound};
-ghost use Rattle.kp_model.specs.State.{is_held};
 ghost use Rattle.kp_model.specs.Step as step;
-ghost use Rattle.kp_model.specs.Step.{apply, opened, written_by, new_session, with_seq};
+ghost use Rattle.kp_model.specs.Step.{apply, expired, written_by, with_seq};
 ghost use Rattle.kp_model.specs.Touched.{touched, touched_by, touched_in};
 ghost use Rattle.kp_model.specs.declared.entry.Body.TheVariants as body;
-ghost use Rattle.kp_prep.specs.Effects.{IsPlan, answer_plan, opening_plan, acting_plan};
+ghost use Rattle.kp_prep.specs.Effects.{is_on_node};
+ghost use Rattle.kp_prep.specs.Plans.{IsPlan, acting_plan};
 
 use crate::act::act;
-use crate::plan::{Act, Effect, Plan, Prepared, Stamp};
+use crate::closing::close;
+use crate::look::OfView;
+use crate::plan::{Act, Effects, Plan, Stamp};
+use crate::session::{answer, attach, open, show};
 use kp_model::errors::SESSION_EXPIRED;
-use kp_model::{Body, Cmd, Entry, Events, Items, NoMemory, Origin, Reply, Session, View};
+use kp_model::{Body, Cmd, Entry, NoMemory, Reply, Session, View};
 use std::alloc::Global;
-
-/// The first number that no session gets.
-const LAST_SESSION: u64 = 4611686018427387904;
 
 /// What an entry of this index does, on a state whose applied index is the one before.
 pub(crate) fn plan<V: View>(
@@ -29,6 +30,7 @@ pub(crate) fn plan<V: View>(
 ) -> Result<Plan, NoMemory>
     requires sound { IsSound (V.state view.now) }
     requires next { (V.state view.now).applied + 1 ≡ index }
+    requires built { IsTrue (is_built entry.now.body) }
     ensures { IfOk result (IsPlan (touched (V.state view.now) entry.now) (V.state view.now) (apply (V.state view.now) entry.now)) }
 {
     let stamp = Stamp {
@@ -48,68 +50,23 @@ pub(crate) fn plan<V: View>(
             seq,
             cmd,
         } => write(alloc, view, stamp, *session, *epoch, *seq, cmd),
-        Body::Attach { .. } => Ok(answer(alloc, Reply::Stale)),
-        Body::Expire { .. } => Ok(answer(alloc, Reply::Stale)),
+        Body::Attach {
+            session,
+            passwd,
+            origin,
+        } => attach(alloc, view, *session, *passwd, *origin),
+        Body::Expire { session } => expire(alloc, view, index, *session),
     }
 }
 
-// An answer, and nothing that is done.
-fn answer(alloc: Global, reply: Reply) -> Plan
-    ensures { result ≡ answer_plan reply }
+// What the end of a session that wasn't heard does.
+fn expire<V: View>(alloc: Global, view: &V, index: u64, id: u64) -> Result<Plan, NoMemory>
+    requires sound { IsSound (V.state view.now) }
+    ensures { let s = V.state view.now in (applied : ℕ) → IfOk result (IsPlan (touched_by s (body.Expire id)) s (expired (map.get s.sessions id) (record s { applied = applied }) index id)) }
 {
-    Plan {
-        prepared: Prepared {
-            reply,
-            events: Events::new(alloc),
-        },
-        session: None,
-        next: None,
-        effect: Effect::Nothing,
-    }
-}
-
-// What opening a session does.
-fn open<V: View>(alloc: Global, view: &V, timeout: u32, passwd: [u8; 16], origin: Origin) -> Plan
-    ensures { let s = V.state view.now in (applied : ℕ) → IsPlan (touched_by s (body.OpenSession timeout passwd origin)) s (opened (record s { applied = applied }) timeout passwd origin) result }
-{
-    let late = is_late(view, &origin);
-    if late {
-        answer(alloc, Reply::Stale)
-    } else {
-        opening(alloc, view.next_session(), timeout, passwd, origin)
-    }
-}
-
-// Whether no session is opened: the origin holds one, or no number is left.
-fn is_late<V: View>(view: &V, origin: &Origin) -> bool
-    ensures { result ≡ (is_held (V.state view.now).sessions origin.now || nat_le 4611686018427387904 (V.state view.now).next) }
-{
-    view.holds(origin) || view.next_session() >= LAST_SESSION
-}
-
-// A session is opened under this number.
-fn opening(alloc: Global, id: u64, timeout: u32, passwd: [u8; 16], origin: Origin) -> Plan
-    requires { id < 4611686018427387904 }
-    ensures { result ≡ opening_plan id (new_session timeout passwd origin) }
-{
-    Plan {
-        prepared: Prepared {
-            reply: Reply::Session(id),
-            events: Events::new(alloc),
-        },
-        session: Some((
-            id,
-            Session {
-                timeout,
-                passwd,
-                epoch: 1,
-                seq: 0,
-                ids: Items::new(alloc),
-                holder: origin,
-            },
-        )),
-        next: Some(id + 1),
-        effect: Effect::Nothing,
+    match view.session(id) {
+        None => Ok(answer(alloc, Reply::Stale)),
+        Some(_) => close(alloc, view, index, id),
     }
 }
 
@@ -125,6 +82,7 @@ fn write<V: View>(
 ) -> Result<Plan, NoMemory>
     requires sound { IsSound (V.state view.now) }
     requires fits { IsTrue (fits_cmd cmd.now) }
+    requires built { IsTrue (is_built_cmd cmd.now) }
     ensures { let s = V.state view.now in IfOk result (IsPlan (touched_in s id cmd.now) s (written_by (map.get s.sessions id) (record s { applied = stamp.index }) stamp.index stamp.time id epoch seq cmd.now)) }
 {
     match view.session(id) {
@@ -146,6 +104,8 @@ fn write_of<V: View>(
 ) -> Result<Plan, NoMemory>
     requires sound { IsSound (V.state view.now) }
     requires fits { IsTrue (fits_cmd cmd.now) }
+    requires built { IsTrue (is_built_cmd cmd.now) }
+    requires live { Some session.now ≡ map.get (V.state view.now).sessions id }
     ensures { let s = V.state view.now in IfOk result (IsPlan (touched_in s id cmd.now) s (written_by (Some session.now) (record s { applied = stamp.index }) stamp.index stamp.time id epoch seq cmd.now)) }
 {
     let due = is_due(session, epoch, seq);
@@ -182,9 +142,33 @@ fn acted<V: View>(
 ) -> Result<Plan, NoMemory>
     requires sound { IsSound (V.state view.now) }
     requires fits { IsTrue (fits_cmd cmd.now) }
-    ensures { let s = V.state view.now in IfOk result (IsPlan (touched_in s id cmd.now) s (step.act (record s { applied = stamp.index; sessions = map.insert s.sessions id (with_seq seq session.now) }) session.now.ids stamp.index stamp.time cmd.now)) }
+    requires built { IsTrue (is_built_cmd cmd.now) }
+    requires live { Some session.now ≡ map.get (V.state view.now).sessions id }
+    ensures { let s = V.state view.now in IfOk result (IsPlan (touched_in s id cmd.now) s (step.act (record s { applied = stamp.index; sessions = map.insert s.sessions id (with_seq seq session.now) }) id session.now.ids stamp.index stamp.time cmd.now)) }
 {
-    match act(alloc, view, &session.ids, stamp, cmd) {
+    match cmd {
+        Cmd::Auth { scheme, auth } => show(alloc, id, session, seq, scheme, auth),
+        Cmd::CloseSession => close(alloc, view, stamp.index, id),
+        _ => acted_on_node(alloc, view, stamp, id, session, seq, cmd),
+    }
+}
+
+// The same of a command that looks at one node.
+fn acted_on_node<V: View>(
+    alloc: Global,
+    view: &V,
+    stamp: Stamp,
+    id: u64,
+    session: &Session,
+    seq: u64,
+    cmd: &Cmd,
+) -> Result<Plan, NoMemory>
+    requires sound { IsSound (V.state view.now) }
+    requires fits { IsTrue (fits_cmd cmd.now) }
+    requires node { IsTrue (is_on_node cmd.now) }
+    ensures { let s = V.state view.now in IfOk result (IsPlan (touched_in s id cmd.now) s (step.act (record s { applied = stamp.index; sessions = map.insert s.sessions id (with_seq seq session.now) }) id session.now.ids stamp.index stamp.time cmd.now)) }
+{
+    match act(alloc, &OfView { view }, id, &session.ids, stamp, cmd) {
         Err(refused) => Err(refused),
         Ok(done) => done_by(alloc, id, session, seq, done),
     }
@@ -197,10 +181,12 @@ fn done_by(alloc: Global, id: u64, session: &Session, seq: u64, done: Act) -> Re
     let mut session = session.copy(alloc)?;
     session.seq = seq;
     let Act { prepared, effect } = done;
+    let mut effects = Effects::new(alloc);
+    effects.push(effect)?;
     Ok(Plan {
         prepared,
-        session: Some((id, session)),
+        session: Some((id, Some(session))),
         next: None,
-        effect,
+        effects,
     })
 }

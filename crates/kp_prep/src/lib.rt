@@ -3,14 +3,19 @@
 
 mod act;
 mod checks;
+mod closing;
+mod creation;
 mod deciding;
+mod draft;
 mod entry;
+mod look;
 mod plan;
 mod preparing;
+mod session;
 mod stage;
 #[cfg(test)]
 mod tests;
 
 pub use deciding::{Decided, decide};
-pub use plan::{Act, Effect, Found, Plan, Prepared, Stamp};
+pub use plan::{Act, Effect, Effects, Found, Plan, Prepared, Stamp};
 pub use preparing::prepare;

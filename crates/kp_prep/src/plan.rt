@@ -1,4 +1,4 @@
-use kp_model::{Acls, Bytes, Events, Meta, Reply, Session, Text};
+use kp_model::{Acls, Bytes, Events, Items, Meta, Reply, Session, Text};
 
 /// What an entry is answered.
 #[derive(Debug, Drop)]
@@ -13,7 +13,7 @@ pub struct Prepared {
 pub enum Effect {
     /// Nothing, since the command asks for nothing or ends in an error.
     Nothing,
-    /// A node is made. `up` are its parent's numbers then.
+    /// A node is made, which `meta.owner` owns where that isn't 0. `up` are its parent's numbers then.
     Make {
         path: Text,
         bytes: Bytes,
@@ -33,7 +33,16 @@ pub enum Effect {
         bytes: Bytes,
         meta: Meta,
     },
+    /// The access list of a node is set. `meta` are its numbers then.
+    SetAcl {
+        path: Text,
+        acl: Acls,
+        meta: Meta,
+    },
 }
+
+/// Effects in the order in which they are made.
+pub type Effects = Items<Effect>;
 
 /// The answer of a command and what it does.
 #[derive(Debug, Drop)]
@@ -46,11 +55,11 @@ pub struct Act {
 #[derive(Debug, Drop)]
 pub struct Plan {
     pub prepared: Prepared,
-    /// A session that is set, with its number.
-    pub session: Option<(u64, Session)>,
+    /// A session that is set, with its number; with None inside it goes.
+    pub session: Option<(u64, Option<Session>)>,
     /// The number that the next session gets then.
     pub next: Option<u64>,
-    pub effect: Effect,
+    pub effects: Effects,
 }
 
 /// The numbers of a node and of its parent.

@@ -5,7 +5,7 @@ use Rattle.kp_prep.proofs.Acts.{if_ok, deleted_does, shown_kids}
 use Rattle.kp_prep.proofs.act.remove.Goals as goal
 
 pub kids_left-requires-clause-shown : goal.kids_left-requires-clause-shown
-kids_left-requires-clause-shown g c = shown_kids (g.V.View.state c.args.view.now).nodes (parent c.args.path.now) c.args.found.up c.requires.up ∙ ap (λ p. min (length (children (g.V.View.state c.args.view.now).nodes (parent p))) 2147483647) (sym c.as_str.ensures)
+kids_left-requires-clause-shown g c = shown_kids (g.L.Look.nodes c.args.look.now) (parent c.args.path.now) c.args.found.up c.requires.up ∙ ap (λ p. min (length (children (g.L.Look.nodes c.args.look.now) (parent p))) 2147483647) (sym c.as_str.ensures)
 
 pub returns-in-Ok : goal.returns-in-Ok
-returns-in-Ok g c = if_ok _ _ _ c.gone.ensures (deleted_does (g.V.View.state c.args.view.now) c.args.stamp.index c.args.path.now c.args.found c.in-Ok.kids c.requires.sound.good c.requires.up c.requires.there c.requires.child (c.in-Ok.ensures ∙ ap (λ p. min (length (children (g.V.View.state c.args.view.now).nodes (parent p)) - 1) 2147483647) c.as_str.ensures))
+returns-in-Ok g c = if_ok _ _ _ c.gone.ensures (λ s. deleted_does (record s { nodes = g.L.Look.nodes c.args.look.now }) c.args.stamp.index c.args.path.now c.args.found c.in-Ok.kids c.requires.places c.requires.up c.requires.there c.requires.child (c.in-Ok.ensures ∙ ap (λ p. min (length (children (g.L.Look.nodes c.args.look.now) (parent p)) - 1) 2147483647) c.as_str.ensures))

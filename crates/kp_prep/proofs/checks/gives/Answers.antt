@@ -4,7 +4,7 @@ use Rattle.kp_prep.proofs.Seen.{right_seen}
 use Rattle.kp_prep.proofs.checks.gives.Goals as goal
 
 pub returns-in-None : goal.returns-in-None
-returns-in-None g c = right_seen (g.V.View.state c.args.view.now).nodes c.args.path.now c.args.ids.now c.args.perm None (sym (ap option_copied c.in-None.is) ∙ c.acl.ensures)
+returns-in-None g c = right_seen (g.L.Look.nodes c.args.look.now) c.args.path.now c.args.ids.now c.args.perm None (sym (ap option_copied c.in-None.is) ∙ c.acl.ensures)
 
 pub returns-in-Some : goal.returns-in-Some
-returns-in-Some g c = c.allows.ensures ∙ right_seen (g.V.View.state c.args.view.now).nodes c.args.path.now c.args.ids.now c.args.perm (Some c.in-Some.acl.now) (sym (ap option_copied c.in-Some.is) ∙ c.acl.ensures)
+returns-in-Some g c = c.allows.ensures ∙ right_seen (g.L.Look.nodes c.args.look.now) c.args.path.now c.args.ids.now c.args.perm (Some c.in-Some.acl.now) (sym (ap option_copied c.in-Some.is) ∙ c.acl.ensures)

@@ -1,11 +1,8 @@
 use Rattle.std.proofs.Common.{ap, sym, ◌∙◌}
 use Rattle.std.specs.Option.{option_copied}
 use Rattle.kp_model.specs.Path.{parent}
-use Rattle.kp_prep.proofs.Seen.{is_root, create_malformed, create_root}
+use Rattle.kp_prep.proofs.Seen.{is_root, place_root}
 use Rattle.kp_prep.proofs.checks.may_create.Goals as goal
 
-pub returns-in-Err : goal.returns-in-Err
-returns-in-Err g c = create_malformed (g.V.View.state c.args.view.now).nodes c.args.ids.now c.args.path.now c.in-Err.ensures
-
 pub returns-in-None : goal.returns-in-None
-returns-in-None g c = create_root (g.V.View.state c.args.view.now).nodes c.args.ids.now c.args.path.now c.in-Ok.ensures (is_root _ (parent c.args.path.now) (sym (ap option_copied c.in-None.is) ∙ c.parent.ensures))
+returns-in-None g c = place_root (g.L.Look.nodes c.args.look.now) c.args.ids.now c.args.path.now (is_root _ (parent c.args.path.now) (sym (ap option_copied c.in-None.is) ∙ c.parent.ensures))

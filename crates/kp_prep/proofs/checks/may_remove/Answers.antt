@@ -5,7 +5,7 @@ use Rattle.kp_prep.proofs.Seen.{is_root, delete_malformed, delete_root}
 use Rattle.kp_prep.proofs.checks.may_remove.Goals as goal
 
 pub returns-in-Err : goal.returns-in-Err
-returns-in-Err g c = delete_malformed (g.V.View.state c.args.view.now).nodes c.args.ids.now c.args.path.now c.args.version c.in-Err.ensures
+returns-in-Err g c = delete_malformed (g.L.Look.nodes c.args.look.now) c.args.ids.now c.args.path.now c.args.version c.in-Err.ensures
 
 pub returns-in-None : goal.returns-in-None
-returns-in-None g c = delete_root (g.V.View.state c.args.view.now).nodes c.args.ids.now c.args.path.now c.args.version c.in-Ok.ensures (is_root _ (parent c.args.path.now) (sym (ap option_copied c.in-None.is) ∙ c.parent.ensures))
+returns-in-None g c = delete_root (g.L.Look.nodes c.args.look.now) c.args.ids.now c.args.path.now c.args.version c.in-Ok.ensures (is_root _ (parent c.args.path.now) (sym (ap option_copied c.in-None.is) ∙ c.parent.ensures))

@@ -1,7 +1,17 @@
-use Rattle.kp_model.specs.Step.{with_seq}
-use Rattle.kp_prep.proofs.Acts.{if_ok}
-use Rattle.kp_prep.proofs.Plans.{acted_is}
+use Rattle.std.proofs.Common.{sym, subst}
+use Rattle.std.specs.Prelude.{IfOk}
+use Rattle.std.specs.FinMap as map
+use Rattle.kp_model.specs.State.{State, Sessions}
+use Rattle.kp_model.specs.Step.{act, with_seq}
+use Rattle.kp_model.specs.Touched.{touched_in}
+use Rattle.kp_prep.specs.Plans.{IsPlan}
+use Rattle.kp_prep.proofs.Closed.{acted_closed}
+use Rattle.kp_prep.proofs.Plans.{gone_again}
 use Rattle.kp_prep.proofs.entry.acted.Goals as goal
 
-pub returns-in-Ok : goal.returns-in-Ok
-returns-in-Ok g c = if_ok _ _ _ c.done_by.ensures (acted_is (g.V.View.state c.args.view.now) c.args.session.now.ids c.args.stamp.index c.args.stamp.time c.args.id (with_seq c.args.seq c.args.session.now) c.args.cmd.now c.in-Ok.done c.in-Ok.ensures)
+pub returns-in-CloseSession : goal.returns-in-CloseSession
+returns-in-CloseSession g c =
+    let s : State = g.V.View.state c.args.view.now in
+    let m : Sessions = map.insert s.sessions c.args.id (with_seq c.args.seq c.args.session.now) in
+    subst (λ x. IfOk c.close.result (IsPlan (touched_in s c.args.id x) s (act (record s { applied = c.args.stamp.index; sessions = m }) c.args.id c.args.session.now.ids c.args.stamp.index c.args.stamp.time x))) (sym c.in-CloseSession.is)
+    (acted_closed s m c.args.session.now.ids c.args.stamp.index c.args.stamp.time c.args.id c.close.result (c.close.ensures c.args.stamp.index m (gone_again s.sessions c.args.id (with_seq c.args.seq c.args.session.now))))

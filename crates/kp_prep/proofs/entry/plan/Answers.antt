@@ -2,7 +2,7 @@ use Rattle.std.proofs.Common.{sym, subst}
 use Rattle.kp_model.specs.declared.reply.Reply.TheVariants as reply
 use Rattle.kp_model.specs.Step.{take_body}
 use Rattle.kp_model.specs.Touched.{touched_by}
-use Rattle.kp_prep.specs.Effects.{IsPlan}
+use Rattle.kp_prep.specs.Plans.{IsPlan}
 use Rattle.kp_prep.proofs.Acts.{if_ok_then}
 use Rattle.kp_prep.proofs.Plans.{answered_is, planned_entry}
 use Rattle.kp_prep.proofs.entry.plan.Goals as goal
@@ -21,8 +21,8 @@ returns-in-Write g c = if_ok_then _ _ _ c.write.ensures (λ p h. planned_entry (
 
 pub returns-in-Attach : goal.returns-in-Attach
 unfolding take_body
-returns-in-Attach g c = planned_entry (g.V.View.state c.args.view.now) c.args.index (record { term = c.entry.inside.term; time = c.entry.inside.time; body = c.entry.inside.body }) c.args.entry.now c.answer-in-Attach.result c.requires.next c.entry.view_is (subst (λ b. IsPlan (touched_by (g.V.View.state c.args.view.now) b) (g.V.View.state c.args.view.now) (take_body (record (g.V.View.state c.args.view.now) { applied = c.args.index }) c.args.index c.entry.inside.time b) c.answer-in-Attach.result) (sym c.in-Attach.is) (subst (IsPlan _ (g.V.View.state c.args.view.now) _) (sym c.answer-in-Attach.ensures) (answered_is _ (g.V.View.state c.args.view.now) c.args.index reply.Stale)))
+returns-in-Attach g c = if_ok_then _ _ _ (c.attach.ensures c.args.index) (λ p h. planned_entry (g.V.View.state c.args.view.now) c.args.index (record { term = c.entry.inside.term; time = c.entry.inside.time; body = c.entry.inside.body }) c.args.entry.now p c.requires.next c.entry.view_is (subst (λ b. IsPlan (touched_by (g.V.View.state c.args.view.now) b) (g.V.View.state c.args.view.now) (take_body (record (g.V.View.state c.args.view.now) { applied = c.args.index }) c.args.index c.entry.inside.time b) p) (sym c.in-Attach.is) h))
 
 pub returns-in-Expire : goal.returns-in-Expire
 unfolding take_body
-returns-in-Expire g c = planned_entry (g.V.View.state c.args.view.now) c.args.index (record { term = c.entry.inside.term; time = c.entry.inside.time; body = c.entry.inside.body }) c.args.entry.now c.answer-in-Expire.result c.requires.next c.entry.view_is (subst (λ b. IsPlan (touched_by (g.V.View.state c.args.view.now) b) (g.V.View.state c.args.view.now) (take_body (record (g.V.View.state c.args.view.now) { applied = c.args.index }) c.args.index c.entry.inside.time b) c.answer-in-Expire.result) (sym c.in-Expire.is) (subst (IsPlan _ (g.V.View.state c.args.view.now) _) (sym c.answer-in-Expire.ensures) (answered_is _ (g.V.View.state c.args.view.now) c.args.index reply.Stale)))
+returns-in-Expire g c = if_ok_then _ _ _ (c.expire.ensures c.args.index) (λ p h. planned_entry (g.V.View.state c.args.view.now) c.args.index (record { term = c.entry.inside.term; time = c.entry.inside.time; body = c.entry.inside.body }) c.args.entry.now p c.requires.next c.entry.view_is (subst (λ b. IsPlan (touched_by (g.V.View.state c.args.view.now) b) (g.V.View.state c.args.view.now) (take_body (record (g.V.View.state c.args.view.now) { applied = c.args.index }) c.args.index c.entry.inside.time b) p) (sym c.in-Expire.is) h))

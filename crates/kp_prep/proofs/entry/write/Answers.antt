@@ -1,7 +1,7 @@
 use Rattle.std.proofs.Common.{ap, sym, subst, ◌∙◌}
 use Rattle.std.specs.Option.{option_copied}
 use Rattle.kp_model.specs.Touched.{touched_in}
-use Rattle.kp_prep.specs.Effects.{IsPlan}
+use Rattle.kp_prep.specs.Plans.{IsPlan}
 use Rattle.kp_prep.proofs.Plans.{written_dead}
 use Rattle.kp_prep.proofs.entry.write.Goals as goal
 

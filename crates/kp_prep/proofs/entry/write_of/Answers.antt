@@ -1,6 +1,6 @@
 use Rattle.std.proofs.Common.{sym, subst, ◌∙◌}
 use Rattle.kp_model.specs.Touched.{touched_in}
-use Rattle.kp_prep.specs.Effects.{IsPlan}
+use Rattle.kp_prep.specs.Plans.{IsPlan}
 use Rattle.kp_prep.proofs.Plans.{written_stale}
 use Rattle.kp_prep.proofs.entry.write_of.Goals as goal
 

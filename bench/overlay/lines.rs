@@ -4,7 +4,11 @@
 //! over PATHS paths in two levels. `lines wide COUNT` makes COUNT children under one parent, and
 //! lists the ten children of its small sibling after each 1,000 of them. `lines churn COUNT` makes
 //! and deletes COUNT nodes, each by another name, and commits each change; `lines churn-cut COUNT`
-//! truncates every second pair of changes in place of its commits.
+//! truncates every second pair of changes in place of its commits. `lines sessions COUNT` has a
+//! hundred live sessions that make numbered ephemeral nodes below a hundred parents, and closes the
+//! oldest session and opens another after each 100 of them, with commits between. `lines own OWNED
+//! OTHERS` makes OWNED ephemeral nodes of one session beside OTHERS persistent ones, all committed;
+//! `lines close OWNED OTHERS` closes that session then and commits it.
 
 use std::io::{BufWriter, Write};
 
@@ -130,6 +134,56 @@ fn churn(out: impl Write, count: u64, cuts: bool) -> std::io::Result<()> {
     Ok(())
 }
 
+fn sessions(out: impl Write, count: u64) -> std::io::Result<()> {
+    let mut numbers = Numbers(11);
+    let mut script = Script { out, lines: 0, last: 0, applied: 0 };
+    let live = 100;
+    for _ in 0..live {
+        script.entry(OPEN)?;
+    }
+    for k in 0..100 {
+        script.entry(&format!("create 1 {} 0 -", path(k)))?;
+    }
+    let mut oldest = 1;
+    let mut made = 0;
+    while script.lines < count {
+        let session = oldest + numbers.below(live);
+        script.entry(&format!("create {session} /group-{:04}/lock- 3 {:016x}", numbers.below(100), session))?;
+        made += 1;
+        if made % 100 == 0 {
+            script.entry(&format!("close {oldest}"))?;
+            script.entry(OPEN)?;
+            oldest += 1;
+        }
+        if script.last - script.applied > WAITING {
+            script.commit()?;
+        }
+    }
+    Ok(())
+}
+
+fn own(out: impl Write, owned: u64, others: u64, closes: bool) -> std::io::Result<()> {
+    let mut script = Script { out, lines: 0, last: 0, applied: 0 };
+    script.entry(OPEN)?;
+    script.entry("create 1 /locks 0 -")?;
+    script.entry("create 1 /data 0 -")?;
+    for k in 0..owned {
+        script.entry(&format!("create 1 /locks/lock-{k:08} 1 -"))?;
+        script.commit()?;
+    }
+    for k in 0..others {
+        script.entry(&format!("create 1 /data/node-{k:08} 0 -"))?;
+        script.commit()?;
+    }
+    if closes {
+        script.entry("close 1")?;
+    }
+    while script.applied < script.last {
+        script.commit()?;
+    }
+    Ok(())
+}
+
 fn main() -> std::io::Result<()> {
     let words: Vec<String> = std::env::args().skip(1).collect();
     let number = |k: usize| words.get(k).and_then(|w| w.parse::<u64>().ok());
@@ -137,10 +191,13 @@ fn main() -> std::io::Result<()> {
     match (words.first().map(String::as_str), number(1), number(2)) {
         (Some("mixed"), Some(count), Some(paths)) => mixed(&mut out, count, paths)?,
         (Some("wide"), Some(count), None) => wide(&mut out, count)?,
+        (Some("sessions"), Some(count), None) => sessions(&mut out, count)?,
+        (Some("own"), Some(owned), Some(others)) => own(&mut out, owned, others, false)?,
+        (Some("close"), Some(owned), Some(others)) => own(&mut out, owned, others, true)?,
         (Some("churn"), Some(count), None) => churn(&mut out, count, false)?,
         (Some("churn-cut"), Some(count), None) => churn(&mut out, count, true)?,
         _ => {
-            eprintln!("usage: lines mixed COUNT PATHS | lines wide|churn|churn-cut COUNT");
+            eprintln!("usage: lines mixed COUNT PATHS | lines wide|churn|churn-cut|sessions COUNT | lines own|close OWNED OTHERS");
             std::process::exit(2);
         }
     }

@@ -25,6 +25,7 @@ struct Node {
     cversion: u32,
     aversion: u32,
     owner: u64,
+    created: u32,
     children: BTreeSet<String>,
 }
 
@@ -64,17 +65,26 @@ fn bytes(word: &str) -> Vec<u8> {
 #[derive(Default)]
 struct Store {
     nodes: BTreeMap<String, Node>,
+    /// The paths that each live session owns.
+    sessions: BTreeMap<u64, BTreeSet<String>>,
+    opened: u64,
     time: u64,
     applied: u64,
     last: u64,
 }
 
 impl Store {
-    fn create(&mut self, path: &str, data: Vec<u8>) -> Result<(), i32> {
-        if !is_path(path) {
+    fn create(&mut self, session: u64, asked: &str, flags: u32, data: Vec<u8>) -> Result<String, i32> {
+        let sequential = flags & 2 != 0;
+        let whole = |number: u32| if sequential { format!("{asked}{number:010}") } else { asked.to_string() };
+        if !is_path(&whole(0)) {
             return Err(-8);
         }
-        let up = parent(path);
+        if !self.sessions.contains_key(&session) {
+            return Err(-112);
+        }
+        let first = whole(0);
+        let up = parent(&first);
         let above = self.nodes.get(up).ok_or(-101)?;
         if !allows(&above.acl, 4) {
             return Err(-102);
@@ -82,17 +92,32 @@ impl Store {
         if above.owner != 0 {
             return Err(-108);
         }
-        if self.nodes.contains_key(path) {
+        let path = whole(above.created);
+        if self.nodes.contains_key(&path) {
             return Err(-110);
         }
         let index = self.last + 1;
         if let Some(above) = self.nodes.get_mut(up) {
             above.cversion += 1;
+            above.created += 1;
             above.pzxid = index;
-            above.children.insert(name(path).to_string());
+            above.children.insert(name(&path).to_string());
         }
-        let node = Node { data, acl: open_acl(), czxid: index, mzxid: index, pzxid: index, ctime: self.time, mtime: self.time, ..Node::default() };
-        self.nodes.insert(path.to_string(), node);
+        let owner = if flags & 1 != 0 { session } else { 0 };
+        if let Some(owned) = self.sessions.get_mut(&owner) {
+            owned.insert(path.clone());
+        }
+        let node = Node { data, acl: open_acl(), owner, czxid: index, mzxid: index, pzxid: index, ctime: self.time, mtime: self.time, ..Node::default() };
+        self.nodes.insert(path.clone(), node);
+        Ok(path)
+    }
+
+    /// Ends a session: each node that it owns goes, and then the session.
+    fn close(&mut self, session: u64) -> Result<(), i32> {
+        let owned = self.sessions.remove(&session).ok_or(-112)?;
+        for path in owned {
+            self.remove(&path);
+        }
         Ok(())
     }
 
@@ -108,6 +133,15 @@ impl Store {
         if !node.children.is_empty() {
             return Err(-111);
         }
+        let owner = node.owner;
+        if let Some(owned) = self.sessions.get_mut(&owner) {
+            owned.remove(path);
+        }
+        self.remove(path);
+        Ok(())
+    }
+
+    fn remove(&mut self, path: &str) {
         let index = self.last + 1;
         if let Some(above) = self.nodes.get_mut(parent(path)) {
             above.cversion += 1;
@@ -115,7 +149,6 @@ impl Store {
             above.children.remove(name(path));
         }
         self.nodes.remove(path);
-        Ok(())
     }
 
     fn set(&mut self, path: &str, data: Vec<u8>) -> Result<&Node, i32> {
@@ -139,11 +172,21 @@ impl Store {
         match words[..] {
             ["open", _, _] => {
                 self.last = index;
-                let _ = write!(out, "pre {index} ok session=1");
+                self.opened += 1;
+                self.sessions.insert(self.opened, BTreeSet::new());
+                let _ = write!(out, "pre {index} ok session={}", self.opened);
             }
-            ["create", _, path, "0", data] => {
-                match self.create(path, bytes(data)) {
-                    Ok(()) => write!(out, "pre {index} ok path={path}"),
+            ["close", session] => {
+                match self.close(session.parse().unwrap_or(0)) {
+                    Ok(()) => write!(out, "pre {index} ok"),
+                    Err(code) => write!(out, "pre {index} err={code}"),
+                }
+                .unwrap_or(());
+                self.last = index;
+            }
+            ["create", session, path, flags, data] => {
+                match self.create(session.parse().unwrap_or(0), path, flags.parse().unwrap_or(0), bytes(data)) {
+                    Ok(path) => write!(out, "pre {index} ok path={path}"),
                     Err(code) => write!(out, "pre {index} err={code}"),
                 }
                 .unwrap_or(());

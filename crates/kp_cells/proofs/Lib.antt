@@ -14,3 +14,4 @@ pub mod Released
 pub mod Traces
 pub mod Sets
 pub mod Kept
+pub mod OneChild

@@ -13,6 +13,8 @@ mod nodes;
 mod pair;
 mod pick;
 mod staging;
+#[cfg(test)]
+mod tests;
 mod trail;
 mod view;
 

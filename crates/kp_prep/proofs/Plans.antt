@@ -1,5 +1,5 @@
 -- What was found of an entry is what it does.
-use Rattle.std.proofs.Common.{◌≡◌, ℕ, ◌+◌, Bool, true, false, not, cond, ◌||◌, ◌&&◌, List, [], ◌∷◌, Option, Some, None, refl, ap, sym, subst, ◌∙◌}
+use Rattle.std.proofs.Common.{◌≡◌, ℕ, ◌+◌, Bool, true, false, not, cond, ◌||◌, ◌&&◌, List, [], ◌∷◌, Option, Some, None, refl, ap, sym, subst, ◌∙◌, true≢false}
 use Rattle.std.specs.Prelude.{ℤ, ◌==◌, nat_le, unwrap_or, if◌then◌else◌, IsTrue}
 use Rattle.std.specs.Cmp.{nat_cmp_total}
 use Rattle.std.specs.FinMap.{nat_cmp-IsAntisymmetric}
@@ -21,7 +21,9 @@ use Rattle.kp_model.specs.Errors.{session_expired, auth_failed, bad_arguments}
 use Rattle.kp_model.specs.Fixed.{fixed}
 use Rattle.kp_model.specs.Path.{is_well_formed}
 use Rattle.kp_model.specs.State.{State, Sessions, is_held}
-use Rattle.kp_model.specs.Touched.{Touched, touched, touched_by, touched_in}
+use Rattle.kp_model.specs.Touched.{Touched, touched, touched_at, touched_by, touched_in}
+use Rattle.kp_model.specs.Built.{is_built, is_built_cmd}
+use Rattle.kp_model.specs.declared.entry.Body.{Body}
 use Rattle.kp_model.specs.declared.entry.Body.TheVariants as body
 use Rattle.kp_model.specs.Step.{Outcome, unless, replies, made_path, owner_of, created, deleted, set, set_acl, act, opened, new_session, attached_to, joined, taken_over, expired, closed, shown_id, with_id, renewed, shows, written_by, with_seq, take_body, apply}
 use Rattle.kp_cells.specs.Parts.{Parts, parts_of}
@@ -190,8 +192,29 @@ shown_one s i t id seq x scheme auth made is =
     subst (λ y. IsPlan k s (replies (record z { sessions = y }) reply.Done) p) (sym (set_again s.sessions id (with_seq seq x) (with_id made (with_seq seq x))))
     (renewed_is k s i id (with_id made (with_seq seq x)) reply.Done (the_one id))))
 
+-- a body that is no multi touches what its parts do
+touched_cmd : (s : State) (i t session epoch seq : ℕ) (c : Cmd) → IsTrue (is_built_cmd c) → touched_at s i t (body.Write session epoch seq c) ≡ touched_in s session c
+touched_cmd s i t session epoch seq (cmd.Create path bytes acl flags stat) built = refl
+touched_cmd s i t session epoch seq (cmd.Delete path version) built = refl
+touched_cmd s i t session epoch seq (cmd.SetData path bytes version) built = refl
+touched_cmd s i t session epoch seq (cmd.SetAcl path acl version) built = refl
+touched_cmd s i t session epoch seq (cmd.Check path version) built = refl
+touched_cmd s i t session epoch seq (cmd.Auth scheme auth) built = refl
+touched_cmd s i t session epoch seq (cmd.Multi ops) built = absurd (true≢false (sym built))
+touched_cmd s i t session epoch seq (cmd.Sync path) built = refl
+touched_cmd s i t session epoch seq cmd.CloseSession built = refl
+
+touched_body : (s : State) (i t : ℕ) (b : Body) → IsTrue (is_built b) → touched_at s i t b ≡ touched_by s b
+touched_body s i t body.Noop built = refl
+touched_body s i t (body.OpenSession timeout passwd origin) built = refl
+touched_body s i t (body.Attach session passwd origin) built = refl
+touched_body s i t (body.Expire session) built = refl
+touched_body s i t (body.Write session epoch seq c) built = touched_cmd s i t session epoch seq c built
+
 -- the entry is taken at the index behind the applied one
-pub planned_entry : (s : State) (i : ℕ) (d e : LogEntry) (p : Plan) → s.applied + 1 ≡ i → d ≡ e → IsPlan (touched_by s d.body) s (take_body (record s { applied = i }) i d.time d.body) p → IsPlan (touched s e) s (apply s e) p
+pub planned_entry : (s : State) (i : ℕ) (d e : LogEntry) (p : Plan) → s.applied + 1 ≡ i → d ≡ e → IsTrue (is_built e.body) → IsPlan (touched_by s d.body) s (take_body (record s { applied = i }) i d.time d.body) p → IsPlan (touched s e) s (apply s e) p
 unfolding apply touched
-planned_entry s i d e p next same h =
-    subst (λ z. IsPlan (touched s z) s (apply s z) p) same (subst (λ n. IsPlan (touched_by s d.body) s (take_body (record s { applied = n }) n d.time d.body) p) (sym next) h)
+planned_entry s i d e p next same built h =
+    subst (λ z. IsPlan (touched s z) s (apply s z) p) same (
+    subst (λ k. IsPlan k s (apply s d) p) (sym (touched_body s (s.applied + 1) d.time d.body (subst (λ (z : LogEntry). IsTrue (is_built z.body)) (sym same) built)))
+    (subst (λ n. IsPlan (touched_by s d.body) s (take_body (record s { applied = n }) n d.time d.body) p) (sym next) h))

@@ -1,4 +1,5 @@
-ghost use Rattle.std.specs.Prelude.{◌≡◌, IfOk};
+ghost use Rattle.std.specs.Prelude.{◌≡◌, IfOk, IsTrue};
+ghost use Rattle.kp_model.specs.Built.{is_built};
 ghost use Rattle.kp_model.specs.Good.{IsSound};
 ghost use Rattle.kp_cells.specs.Overlays.{all_begun, latest_parts, latest_state};
 ghost use Rattle.kp_cells.specs.Parts.{FitTogether};
@@ -10,7 +11,9 @@ use std::alloc::Global;
 use std::test::Fail;
 
 // The opening of the first session.
-fn open() -> Entry {
+fn open() -> Entry
+    ensures { IsTrue (is_built result.body) }
+{
     Entry {
         term: 1,
         time: 0,
@@ -23,6 +26,36 @@ fn open() -> Entry {
                 conn: 1,
             },
         },
+    }
+}
+
+// The session is taken over.
+fn attach() -> Entry
+    ensures { IsTrue (is_built result.body) }
+{
+    Entry {
+        term: 1,
+        time: 0,
+        body: Body::Attach {
+            session: 1,
+            passwd: [7; 16],
+            origin: Origin {
+                node: 1,
+                boot: 1,
+                conn: 2,
+            },
+        },
+    }
+}
+
+// The session ends.
+fn expire() -> Entry
+    ensures { IsTrue (is_built result.body) }
+{
+    Entry {
+        term: 1,
+        time: 0,
+        body: Body::Expire { session: 1 },
     }
 }
 
@@ -48,7 +81,9 @@ fn begun(alloc: Global) -> Result<Cells, NoMemory>
 }
 
 // What the first entry is answered, where its changes are staged.
-fn prepared(alloc: Global, entry: &Entry) -> Result<Prepared, NoMemory> {
+fn prepared(alloc: Global, entry: &Entry) -> Result<Prepared, NoMemory>
+    requires { IsTrue (is_built entry.now.body) }
+{
     let mut cells = begun(alloc)?;
     prepare(alloc, &mut cells, 1, entry)
 }
@@ -58,6 +93,7 @@ fn decided(alloc: Global, cells: &Cells, entry: &Entry) -> Result<Decided, NoMem
     requires fits { FitTogether (latest_parts cells.now) }
     requires sound { IsSound (latest_state cells.now) }
     requires next { (latest_state cells.now).applied ≡ 0 }
+    requires built { IsTrue (is_built entry.now.body) }
 {
     decide(alloc, &cells.latest(), 1, entry)
 }
@@ -67,6 +103,16 @@ fn an_opening_is_prepared(rt: HostRuntime) -> Result<(), Fail> {
     let prepared = prepared(rt.alloc(), &open())?;
     assert!(rt; matches!(prepared.reply, Reply::Session(1)));
     assert_eq!(rt; prepared.events.len(), 0);
+    Ok(())
+}
+
+#[test]
+fn a_dead_session_is_neither_taken_over_nor_ended(rt: HostRuntime) -> Result<(), Fail> {
+    let attached = prepared(rt.alloc(), &attach())?;
+    assert!(rt; matches!(attached.reply, Reply::Err(-112)));
+    let expired = prepared(rt.alloc(), &expire())?;
+    assert!(rt; matches!(expired.reply, Reply::Stale));
+    assert_eq!(rt; expired.events.len(), 0);
     Ok(())
 }
 

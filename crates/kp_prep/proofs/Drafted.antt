@@ -1,5 +1,5 @@
 -- What is known of the nodes behind some effects.
-use Rattle.std.proofs.Common.{◌≡◌, ℕ, ◌-◌, Bool, true, false, not, cond, List, [], ◌∷◌, ◌++◌, length, min, Option, Some, None, IsSome, is_some, refl, ap, sym, subst, ◌∙◌, arith, ◌<◌}
+use Rattle.std.proofs.Common.{◌≡◌, ℕ, ◌-◌, Bool, true, false, cond, List, [], ◌∷◌, ◌++◌, length, min, Option, Some, None, IsSome, is_some, refl, ap, sym, subst, ◌∙◌, arith, ◌<◌}
 use Rattle.std.specs.Prelude.{map, unwrap_or, String, Result, Ok, Err, OnOk}
 use Rattle.std.specs.Option.{option_map}
 use Rattle.std.specs.Ordering.{eq_by_cmp, is_eq}
@@ -7,17 +7,16 @@ use Rattle.std.specs.Str.{bytes_eq}
 use Rattle.std.specs.FinMap as fin
 use Rattle.std.proofs.lemmas.Cmp.{tied_itself}
 use Rattle.std.proofs.lemmas.Slice.Eq.{bytes_eq-Decides}
-use Rattle.kp_model.specs.declared.node.Acl.{Acl}
 use Rattle.kp_model.specs.declared.node.Meta.{Meta}
 use Rattle.kp_model.specs.declared.node.Node.{Node}
 use Rattle.kp_model.specs.Path.{root, parent}
-use Rattle.kp_model.specs.State.{Nodes, path_cmp, blank_node, children, meta_at, meta_of, acl_at, stat}
+use Rattle.kp_model.specs.State.{Nodes, path_cmp, blank_node, children, meta_at, meta_of, stat}
 use Rattle.kp_model.specs.Step.{shrunk, without_child}
 use Rattle.kp_cells.proofs.Maps.{no, tied}
 use Rattle.kp_prep.specs.declared.draft.Known.{Known}
 use Rattle.kp_prep.specs.declared.plan.Effect.{Effect}
 use Rattle.kp_prep.specs.declared.plan.Effect.TheVariants as effect
-use Rattle.kp_prep.specs.Drafts.{IsKnown, IsSame, Tells, IsDraft, is_gone, shown_list, list_at, known_at, up_left, removal}
+use Rattle.kp_prep.specs.Drafts.{IsKnown, IsSame, Tells, IsDraft, known_at, up_left, removal}
 use Rattle.kp_prep.specs.Effects.{IsChildPath, effected_nodes, without_child_shown}
 use Rattle.kp_prep.specs.Several.{effected_nodes_by}
 use Rattle.kp_prep.proofs.Acts.{shown_kids}
@@ -33,18 +32,18 @@ pub exact_kids : (nodes : Nodes) (p : List ℕ) (m : Meta) → Some m ≡ meta_a
 exact_kids nodes p m e h = let s = shown_kids nodes p m (sym e) in omega (arith, s, h)
 
 -- nothing is done, and nothing is kept
-pub draft_blank : {Z : Type 0} (nodes : Nodes) (es : List Effect) (kept : List (String Z × Known)) (lists : List (String Z × List Acl)) → es ≡ [] → kept ≡ [] → lists ≡ [] → IsDraft nodes es kept lists
+pub draft_blank : {Z : Type 0} (nodes : Nodes) (es : List Effect) (kept : List (String Z × Known)) → es ≡ [] → kept ≡ [] → IsDraft nodes es kept
 unfolding effected_nodes_by
-draft_blank {Z = Z} nodes es kept lists e k l = subst (λ es. IsDraft nodes es kept lists) (sym e) (subst (λ kept. IsDraft {Z = Z} nodes [] kept lists) (sym k) (subst (λ lists. IsDraft {Z = Z} nodes [] [] lists) (sym l) (record { known = λ q. record { meta = refl; kids = refl }; acls = λ q. refl })))
+draft_blank {Z = Z} nodes es kept e k = subst (λ es. IsDraft nodes es kept) (sym e) (subst (λ kept. IsDraft {Z = Z} nodes [] kept) (sym k) (λ q. record { meta = refl; kids = refl }))
 
 -- what is kept of a path
-pub kept_some : {Z : Type 0} (nodes : Nodes) (es : List Effect) (kept : List (String Z × Known)) (lists : List (String Z × List Acl)) (q : List ℕ) (k : Known) → IsDraft nodes es kept lists → Some k ≡ known_at kept q → IsKnown (effected_nodes_by nodes es) q k
-kept_some nodes es kept lists q k h e = subst (Tells nodes (effected_nodes_by nodes es) q) (sym e) (h.known q)
+pub kept_some : {Z : Type 0} (nodes : Nodes) (es : List Effect) (kept : List (String Z × Known)) (q : List ℕ) (k : Known) → IsDraft nodes es kept → Some k ≡ known_at kept q → IsKnown (effected_nodes_by nodes es) q k
+kept_some nodes es kept q k h e = subst (Tells nodes (effected_nodes_by nodes es) q) (sym e) (h q)
 
 -- what is known of it where nothing is kept
-pub kept_none : {Z : Type 0} (nodes : Nodes) (es : List Effect) (kept : List (String Z × Known)) (lists : List (String Z × List Acl)) (q : List ℕ) (k : Known) → IsDraft nodes es kept lists → None ≡ known_at kept q → IsKnown nodes q k → IsKnown (effected_nodes_by nodes es) q k
-kept_none nodes es kept lists q k h e known =
-    let same : IsSame nodes (effected_nodes_by nodes es) q = subst (Tells nodes (effected_nodes_by nodes es) q) (sym e) (h.known q) in
+pub kept_none : {Z : Type 0} (nodes : Nodes) (es : List Effect) (kept : List (String Z × Known)) (q : List ℕ) (k : Known) → IsDraft nodes es kept → None ≡ known_at kept q → IsKnown nodes q k → IsKnown (effected_nodes_by nodes es) q k
+kept_none nodes es kept q k h e known =
+    let same : IsSame nodes (effected_nodes_by nodes es) q = subst (Tells nodes (effected_nodes_by nodes es) q) (sym e) (h q) in
     record { meta = known.meta ∙ sym same.meta; kids = known.kids ∙ sym same.kids }
 
 -- one effect more
@@ -72,11 +71,11 @@ module _ (i : ℕ) (now : Nodes) (p : List ℕ) (u n : Node) (above : fin.get no
   abbrev siblings : ℕ
   siblings = length (children now (parent p))
 
-  went : shrunk now i p ≡ gone
-  went = shrunk_is i now p u above
+  is_gone : shrunk now i p ≡ gone
+  is_gone = shrunk_is i now p u above
 
   counted : (q : List ℕ) → length (children (shrunk now i p) q) ≡ length (children gone q)
-  counted q = ap (λ z. length (children z q)) went
+  counted q = ap (λ z. length (children z q)) is_gone
 
   own : (r : List ℕ) → eq_by_cmp path_cmp r r ≡ true
   own r = ap is_eq (tied_itself path_total r)
@@ -116,16 +115,14 @@ module _ (i : ℕ) (now : Nodes) (p : List ℕ) (u n : Node) (above : fin.get no
     kids = ap (λ (c : ℕ). c - 1) is ∙ sym fewer;
   }
 
-  else_there : (q : List ℕ) → bytes_eq p q ≡ false → bytes_eq (parent p) q ≡ false → fin.get (shrunk now i p) q ≡ fin.get now q
-  else_there q not_path not_parent =
-      get-shrunk i now p u above q
-      ∙ ap (λ b. cond b None (cond (eq_by_cmp path_cmp q (parent p)) (Some (without_child i u)) (fin.get now q))) (apart p q not_path)
-      ∙ ap (λ b. cond b (Some (without_child i u)) (fin.get now q)) (apart (parent p) q not_parent)
-
   pub else_same : (q : List ℕ) → bytes_eq p q ≡ false → bytes_eq (parent p) q ≡ false → IsSame now (shrunk now i p) q
   else_same q not_path not_parent =
+      let same : fin.get (shrunk now i p) q ≡ fin.get now q =
+      get-shrunk i now p u above q
+      ∙ ap (λ b. cond b None (cond (eq_by_cmp path_cmp q (parent p)) (Some (without_child i u)) (fin.get now q))) (apart p q not_path)
+      ∙ ap (λ b. cond b (Some (without_child i u)) (fin.get now q)) (apart (parent p) q not_parent) in
       let kids : length (children (shrunk now i p) q) ≡ length (children now q) = counted q ∙ count_else-gone now p u (without_child i u) u above child.1 q (apart (parent p) q not_parent) in
-      record { meta = meta_same now (shrunk now i p) q (else_there q not_path not_parent) kids; kids = kids }
+      record { meta = meta_same now (shrunk now i p) q same kids; kids = kids }
 
 -- what was kept tells a path that is seen as before
 still : (nodes now after : Nodes) (q : List ℕ) (o : Option Known) → IsSame now after q → Tells nodes now q o → Tells nodes after q o
@@ -148,30 +145,12 @@ pub unseen : {A : Type 0} (now : Nodes) (p up : List ℕ) (over : Known) → up 
 unseen now p up over is above known none =
     no false refl (sym (ap is_some (sym (ap (fin.get now) is) ∙ meta_none now up (sym none ∙ known.meta))) ∙ above)
 
--- the access list of a path, from what is there
-acl_none : (nodes : Nodes) (q : List ℕ) → fin.get nodes q ≡ None → acl_at nodes q ≡ None
-unfolding acl_at
-acl_none nodes q e = ap (option_map (λ (n : Node). n.acl)) e
-
-acl_same : (now nodes : Nodes) (q : List ℕ) → fin.get now q ≡ fin.get nodes q → acl_at now q ≡ acl_at nodes q
-unfolding acl_at
-acl_same now nodes q e = ap (option_map (λ (n : Node). n.acl)) e
-
-acl_like : (now nodes : Nodes) (q : List ℕ) (v w : Node) → fin.get now q ≡ Some v → fin.get nodes q ≡ Some w → v.acl ≡ w.acl → acl_at now q ≡ acl_at nodes q
-unfolding acl_at
-acl_like now nodes q v w e f same = ap (option_map (λ (n : Node). n.acl)) e ∙ ap Some same ∙ sym (ap (option_map (λ (n : Node). n.acl)) f)
-
--- where a node is, none is known to be gone
-still_there : (nodes now : Nodes) (q : List ℕ) (o : Option Known) (n : Node) → fin.get now q ≡ Some n → Tells nodes now q o → is_gone o ≡ false
-still_there nodes now q None n e h = refl
-still_there nodes now q (Some k) n e h = ap (λ x. not (is_some x)) (h.meta ∙ meta_there now q n e)
-
 something : (o : Option Node) → IsSome o → (n : Node) × (o ≡ Some n)
 something None h = no false refl h
 something (Some n) h = (n, refl)
 
 -- a node goes
-module _ {Z : Type 0} (i id : ℕ) (nodes : Nodes) (es after : List Effect) (kept new : List (String Z × Known)) (lists new_lists : List (String Z × List Acl)) (p up : List ℕ) (is_up : up ≡ parent p) (child : IsChildPath p)
+module _ {Z : Type 0} (i id : ℕ) (nodes : Nodes) (es after : List Effect) (kept new : List (String Z × Known)) (p up : List ℕ) (is_up : up ≡ parent p) (child : IsChildPath p)
     (there : IsSome (fin.get (effected_nodes_by nodes es) p)) (above : IsSome (fin.get (effected_nodes_by nodes es) (parent p)))
     (here over : Known) (m : Meta) (known : IsKnown (effected_nodes_by nodes es) p here) (known_up : IsKnown (effected_nodes_by nodes es) up over) (seen : Some m ≡ over.meta)
     (pushed : after ≡ es ++ effect.Remove p (without_child_shown i (min (over.kids - 1) 2147483647) m) id ∷ []) where
@@ -198,50 +177,15 @@ module _ {Z : Type 0} (i id : ℕ) (nodes : Nodes) (es after : List Effect) (kep
   pub pushed_is : after ≡ es ++ removal i id now p ∷ []
   pushed_is = pushed ∙ ap (λ e. es ++ e ∷ []) effect_is
 
-  n : (n : Node) × (fin.get now p ≡ Some n)
-  n = something (fin.get now p) there
-
-  u : (u : Node) × (fin.get now (parent p) ≡ Some u)
-  u = something (fin.get now (parent p)) above
-
-  next : effected_nodes_by nodes after ≡ shrunk now i p
-  next = ap (effected_nodes_by nodes) pushed_is ∙ effected-push nodes es (removal i id now p) ∙ removal_nodes i id now p u.0 u.1
-
-  known_then : (q : List ℕ) → Tells nodes now q (known_at kept q) → Tells nodes (shrunk now i p) q (cond (bytes_eq p q) (Some none) (cond (bytes_eq up q) (Some left) (known_at kept q)))
-  known_then q h =
+  pub draft_removed : ((q : List ℕ) → known_at new q ≡ cond (bytes_eq p q) (Some (record { meta = None; kids = here.kids })) (cond (bytes_eq up q) (Some (record { meta = Some (without_child_shown i (min (over.kids - 1) 2147483647) m); kids = over.kids - 1 })) (known_at kept q))) → IsDraft nodes es kept → IsDraft nodes after new
+  draft_removed keeps h = λ q.
+      let n = something (fin.get now p) there in
+      let u = something (fin.get now (parent p)) above in
+      let next : effected_nodes_by nodes after ≡ shrunk now i p = ap (effected_nodes_by nodes) pushed_is ∙ effected-push nodes es (removal i id now p) ∙ removal_nodes i id now p u.0 u.1 in
+      subst (λ z. Tells nodes z q (known_at new q)) (sym next) (
+      subst (Tells nodes (shrunk now i p) q) (sym (keeps q)) (
       told nodes now (shrunk now i p) p up q none left (known_at kept q) (bytes_eq p q) (bytes_eq up q) refl refl
       (path_known i now p u.0 n.0 u.1 n.1 child here.kids known.kids)
       (subst (λ r. IsKnown (shrunk now i p) r left) (sym is_up) (parent_known i now p u.0 n.0 u.1 n.1 child over.kids m siblings_are shown))
       (λ e f. else_same i now p u.0 n.0 u.1 n.1 child q e (ap (λ r. bytes_eq r q) (sym is_up) ∙ f))
-      h
-
-  lists_then : (q : List ℕ) (a b : Bool) → bytes_eq p q ≡ a → bytes_eq up q ≡ b → Tells nodes now q (known_at kept q) → acl_at now q ≡ shown_list (is_gone (known_at kept q)) (list_at lists q) (acl_at nodes q) → acl_at (shrunk now i p) q ≡ shown_list (is_gone (cond a (Some none) (cond b (Some left) (known_at kept q)))) (list_at lists q) (acl_at nodes q)
-  lists_then q true b e f k h = acl_none (shrunk now i p) q (ap (fin.get (shrunk now i p)) (sym ((bytes_eq-Decides p q).0 e)) ∙ at_path i now p u.0 n.0 u.1 n.1 child)
-  lists_then q false true e f k h =
-      let at : parent p ≡ q = sym is_up ∙ (bytes_eq-Decides up q).0 f in
-      acl_like (shrunk now i p) now q (without_child i u.0) u.0 (ap (fin.get (shrunk now i p)) (sym at) ∙ at_parent i now p u.0 n.0 u.1 n.1 child) (ap (fin.get now) (sym at) ∙ u.1) refl
-      ∙ h
-      ∙ ap (λ g. shown_list g (list_at lists q) (acl_at nodes q)) (still_there nodes now q (known_at kept q) u.0 (ap (fin.get now) (sym at) ∙ u.1) k)
-  lists_then q false false e f k h = acl_same (shrunk now i p) now q (else_there i now p u.0 n.0 u.1 n.1 child q e (ap (λ r. bytes_eq r q) (sym is_up) ∙ f)) ∙ h
-
-  pub draft_removed : ((q : List ℕ) → known_at new q ≡ cond (bytes_eq p q) (Some none) (cond (bytes_eq up q) (Some left) (known_at kept q))) → new_lists ≡ lists → IsDraft nodes es kept lists → IsDraft nodes after new new_lists
-  draft_removed keeps same h = record {
-    known = λ q. subst (λ z. Tells nodes z q (known_at new q)) (sym next) (subst (Tells nodes (shrunk now i p) q) (sym (keeps q)) (known_then q (h.known q)));
-    acls = λ q.
-        ap (λ z. acl_at z q) next
-        ∙ lists_then q (bytes_eq p q) (bytes_eq up q) refl refl (h.known q) (h.acls q)
-        ∙ sym (λ j. shown_list (is_gone (keeps q j)) (list_at (same j) q) (acl_at nodes q));
-  }
-
--- what is lent of the numbers of a path
-pub meta_kept : {Z : Type 0} (nodes : Nodes) (es : List Effect) (kept : List (String Z × Known)) (lists : List (String Z × List Acl)) (q : List ℕ) (k : Known) → IsDraft nodes es kept lists → Some k ≡ known_at kept q → k.meta ≡ meta_at (effected_nodes_by nodes es) q
-meta_kept nodes es kept lists q k h e = (kept_some nodes es kept lists q k h e).meta
-
-pub meta_before : {Z : Type 0} (nodes : Nodes) (es : List Effect) (kept : List (String Z × Known)) (lists : List (String Z × List Acl)) (q : List ℕ) → IsDraft nodes es kept lists → None ≡ known_at kept q → meta_at nodes q ≡ meta_at (effected_nodes_by nodes es) q
-meta_before nodes es kept lists q h e =
-    let same : IsSame nodes (effected_nodes_by nodes es) q = subst (Tells nodes (effected_nodes_by nodes es) q) (sym e) (h.known q) in
-    sym same.meta
-
--- what is lent of its access list
-pub acl_kept : {Z : Type 0} (nodes : Nodes) (es : List Effect) (kept : List (String Z × Known)) (lists : List (String Z × List Acl)) (q : List ℕ) (g : Bool) (l : Option (List Acl)) → IsDraft nodes es kept lists → is_gone (known_at kept q) ≡ g → l ≡ list_at lists q → shown_list g l (acl_at nodes q) ≡ acl_at (effected_nodes_by nodes es) q
-acl_kept nodes es kept lists q g l h e f = (λ j. shown_list (sym e j) (f j) (acl_at nodes q)) ∙ sym (h.acls q)
+      (h q)))

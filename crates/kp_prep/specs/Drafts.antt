@@ -1,11 +1,10 @@
 -- The nodes behind some effects, and what is known of them without a tree.
-use Rattle.std.specs.Prelude.{◌≡◌, ℕ, ◌-◌, min, Bool, true, false, not, is_some, List, [], ◌∷◌, length, Option, Some, None, unwrap_or, String, string_bytes}
+use Rattle.std.specs.Prelude.{◌≡◌, ℕ, ◌-◌, min, List, [], ◌∷◌, length, Option, Some, None, unwrap_or, String, string_bytes}
 use Rattle.std.specs.Map.{lookup}
 use Rattle.std.specs.Str.{bytes_eq}
-use Rattle.kp_model.specs.declared.node.Acl.{Acl}
 use Rattle.kp_model.specs.declared.node.Meta.{Meta}
 use Rattle.kp_model.specs.Path.{parent}
-use Rattle.kp_model.specs.State.{Nodes, blank_node, children, meta_of, meta_at, acl_at}
+use Rattle.kp_model.specs.State.{Nodes, blank_node, children, meta_of, meta_at}
 use Rattle.kp_model.specs.Step.{shrunk}
 use Rattle.kp_prep.specs.declared.draft.Known.{Known}
 use Rattle.kp_prep.specs.declared.plan.Effect.{Effect}
@@ -28,30 +27,14 @@ abbrev pub Tells : Nodes → Nodes → List ℕ → Option Known → Type 0
 Tells nodes now path None = IsSame nodes now path
 Tells nodes now path (Some k) = IsKnown now path k
 
--- whether it is known that no node is at the path
-abbrev pub is_gone : Option Known → Bool
-is_gone None = false
-is_gone (Some k) = not (is_some k.meta)
-
--- the access list of a path: none where no node is there, and else the one that is kept, or the one of before
-abbrev pub shown_list : Bool → Option (List Acl) → Option (List Acl) → Option (List Acl)
-shown_list true kept before = None
-shown_list false (Some acl) before = Some acl
-shown_list false None before = before
-
 module _ {Z : Type 0} where
   -- what is kept of a path
   abbrev pub known_at : List (String Z × Known) → List ℕ → Option Known
   known_at kept path = lookup (λ t. bytes_eq path (string_bytes t)) kept
 
-  -- the access list that is kept of a path
-  abbrev pub list_at : List (String Z × List Acl) → List ℕ → Option (List Acl)
-  list_at lists path = lookup (λ t. bytes_eq path (string_bytes t)) lists
-
   -- what is kept tells each path as it is after the effects
-  pub record IsDraft (nodes : Nodes) (es : List Effect) (kept : List (String Z × Known)) (lists : List (String Z × List Acl)) : Type 0 where
-    pub known : (path : List ℕ) → Tells nodes (effected_nodes_by nodes es) path (known_at kept path)
-    pub acls : (path : List ℕ) → acl_at (effected_nodes_by nodes es) path ≡ shown_list (is_gone (known_at kept path)) (list_at lists path) (acl_at nodes path)
+  abbrev pub IsDraft : Nodes → List Effect → List (String Z × Known) → Type 0
+  IsDraft nodes es kept = (path : List ℕ) → Tells nodes (effected_nodes_by nodes es) path (known_at kept path)
 
 -- the shown numbers of the parent of a node that goes, as they are then
 abbrev pub up_left : ℕ → Nodes → List ℕ → Meta

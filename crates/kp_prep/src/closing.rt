@@ -68,13 +68,8 @@ fn removals<V: View>(
 {
     let mut draft = blank(alloc);
     let removed = remove_all(alloc, view, index, id, paths, &mut draft);
-    let Draft {
-        effects,
-        kept,
-        lists,
-    } = draft;
+    let Draft { effects, kept } = draft;
     drop(kept);
-    drop(lists);
     match removed {
         Ok(()) => Ok(effects),
         Err(refused) => Err(refused),
@@ -92,7 +87,7 @@ fn remove_all<V: View>(
 ) -> Result<(), NoMemory>
     requires leaves { AreLeaves (V.state view.now).nodes id paths.now }
     requires none { draft.old.effects ≡ [] }
-    requires draft { IsDraft (V.state view.now).nodes draft.old.effects draft.old.kept.entries draft.old.lists.entries }
+    requires draft { IsDraft (V.state view.now).nodes draft.old.effects draft.old.kept.entries }
     ensures { OnOk result (draft.new.effects ≡ removals index id (V.state view.now).nodes paths.now) }
 {
     for path in paths {

@@ -5,18 +5,16 @@ ghost use Rattle.std.specs.Str.{bytes_eq};
 ghost use Rattle.std.specs.FinMap as map;
 ghost use Rattle.kp_model.specs.Path.{parent};
 ghost use Rattle.kp_model.specs.State.{Nodes, meta_at};
-ghost use Rattle.kp_prep.specs.Drafts.{IsDraft, IsKnown, is_gone, known_at, removal};
+ghost use Rattle.kp_prep.specs.Drafts.{IsDraft, IsKnown, known_at, removal};
 ghost use Rattle.kp_prep.specs.Effects.{IsChildPath, without_child_shown};
 ghost use Rattle.kp_prep.specs.Several.{effected_nodes_by};
 ghost use Rattle.kp_prep.specs.declared.plan.Effect.TheVariants as effect;
 
 use crate::act::{MOST_KIDS, rise};
 use crate::plan::{Effect, Effects};
-use crate::look::Look;
-use kp_model::{Acl, Acls, Meta, NoMemory, Text, View};
+use kp_model::{Meta, NoMemory, Text, View};
 use std::alloc::Global;
 use std::collections::HashMap;
-use std::marker::Model;
 
 /// What is known of a path: the numbers of its node, if there is one, and how many children it has.
 #[derive(Clone, Copy, Debug)]
@@ -34,19 +32,16 @@ type Kept = HashMap<String, Known>;
 pub struct Draft {
     pub effects: Effects,
     pub kept: HashMap<String, Known>,
-    /// The access lists that were set.
-    pub lists: HashMap<String, Acls>,
 }
 
 /// No effects.
 pub(crate) fn blank(alloc: Global) -> Draft
     ensures none { result.effects ≡ [] }
-    ensures draft { (nodes : Nodes) → IsDraft nodes result.effects result.kept.entries result.lists.entries }
+    ensures draft { (nodes : Nodes) → IsDraft nodes result.effects result.kept.entries }
 {
     Draft {
         effects: Effects::new(alloc),
         kept: HashMap::new(alloc),
-        lists: HashMap::new(alloc),
     }
 }
 
@@ -57,7 +52,7 @@ pub(crate) fn look<V: View>(
     draft: &Draft,
     path: &str,
 ) -> Result<Known, NoMemory>
-    requires { IsDraft (V.state view.now).nodes draft.now.effects draft.now.kept.entries draft.now.lists.entries }
+    requires { IsDraft (V.state view.now).nodes draft.now.effects draft.now.kept.entries }
     ensures { IfOk result (IsKnown (effected_nodes_by (V.state view.now).nodes draft.now.effects) path.now) }
 {
     match draft.kept.get(path) {
@@ -113,11 +108,11 @@ pub(crate) fn remove<V: View>(
     owner: u64,
     path: &str,
 ) -> Result<(), NoMemory>
-    requires draft { IsDraft (V.state view.now).nodes draft.old.effects draft.old.kept.entries draft.old.lists.entries }
+    requires draft { IsDraft (V.state view.now).nodes draft.old.effects draft.old.kept.entries }
     requires child { IsChildPath path.now }
     requires there { IsSome (map.get (effected_nodes_by (V.state view.now).nodes draft.old.effects) path.now) }
     requires above { IsSome (map.get (effected_nodes_by (V.state view.now).nodes draft.old.effects) (parent path.now)) }
-    ensures draft { OnOk result (IsDraft (V.state view.now).nodes draft.new.effects draft.new.kept.entries draft.new.lists.entries) }
+    ensures draft { OnOk result (IsDraft (V.state view.now).nodes draft.new.effects draft.new.kept.entries) }
     ensures effects { OnOk result (draft.new.effects ≡ draft.old.effects ++ removal index owner (effected_nodes_by (V.state view.now).nodes draft.old.effects) path.now ∷ []) }
 {
     match kp_path::parent(path) {
@@ -136,12 +131,12 @@ fn remove_under<V: View>(
     path: &str,
     up: &str,
 ) -> Result<(), NoMemory>
-    requires draft { IsDraft (V.state view.now).nodes draft.old.effects draft.old.kept.entries draft.old.lists.entries }
+    requires draft { IsDraft (V.state view.now).nodes draft.old.effects draft.old.kept.entries }
     requires child { IsChildPath path.now }
     requires parent { up.now ≡ parent path.now }
     requires there { IsSome (map.get (effected_nodes_by (V.state view.now).nodes draft.old.effects) path.now) }
     requires above { IsSome (map.get (effected_nodes_by (V.state view.now).nodes draft.old.effects) (parent path.now)) }
-    ensures draft { OnOk result (IsDraft (V.state view.now).nodes draft.new.effects draft.new.kept.entries draft.new.lists.entries) }
+    ensures draft { OnOk result (IsDraft (V.state view.now).nodes draft.new.effects draft.new.kept.entries) }
     ensures effects { OnOk result (draft.new.effects ≡ draft.old.effects ++ removal index owner (effected_nodes_by (V.state view.now).nodes draft.old.effects) path.now ∷ []) }
 {
     let here = look(alloc, view, draft, path)?;
@@ -167,7 +162,6 @@ fn take_out(
     kids: u64,
 ) -> Result<(), NoMemory>
     ensures effects { OnOk result (draft.new.effects ≡ draft.old.effects ++ effect.Remove path.now (without_child_shown index (min (siblings - 1) 2147483647) meta) owner ∷ []) }
-    ensures lists { draft.new.lists ≡ draft.old.lists }
     ensures kept { OnOk result ((p : List ℕ) → known_at draft.new.kept.entries p ≡ cond (bytes_eq path.now p) (Some (record { meta = None; kids = kids })) (cond (bytes_eq up.now p) (Some (record { meta = Some (without_child_shown index (min (siblings - 1) 2147483647) meta); kids = siblings - 1 })) (known_at draft.old.kept.entries p))) }
 {
     let left = siblings.saturating_sub(1);
@@ -215,71 +209,4 @@ fn insert(kept: &mut Kept, path: String, known: Known) -> Result<(), NoMemory>
 {
     kept.insert(path, known)?;
     Ok(())
-}
-
-/// The nodes of a view behind the effects of a draft.
-#[derive(Drop)]
-pub(crate) struct Drafted<'a, V: View> {
-    view: &'a V,
-    draft: &'a Draft,
-}
-
-impl<'a, V: View> Model for Drafted<'a, V> {
-    ghost use Rattle.kp_model.specs.Codes.{nodes_code};
-    ghost use Rattle.kp_model.specs.State.{Nodes};
-    ghost use Rattle.kp_prep.specs.Drafts.{IsDraft};
-    ghost use Rattle.kp_prep.specs.Several.{effected_nodes_by};
-
-    ghost Value = { Nodes };
-
-    ghost coded = { nodes_code };
-
-    ghost view = { λ d. effected_nodes_by (V.state d.view.now).nodes d.draft.now.effects };
-
-    ghost invariant = { λ d. IsDraft (V.state d.view.now).nodes d.draft.now.effects d.draft.now.kept.entries d.draft.now.lists.entries };
-}
-
-/// The nodes behind the effects, to be looked at.
-pub(crate) fn behind<'a, V: View>(view: &'a V, draft: &'a Draft) -> Drafted<'a, V>
-    requires { IsDraft (V.state view.now).nodes draft.now.effects draft.now.kept.entries draft.now.lists.entries }
-    ensures { result ≡ effected_nodes_by (V.state view.now).nodes draft.now.effects }
-{
-    Drafted { view, draft }
-}
-
-// Whether it is known that no node is at a path.
-fn is_gone(draft: &Draft, path: &str) -> bool
-    ensures { result ≡ is_gone (known_at draft.now.kept.entries path.now) }
-{
-    match draft.kept.get(path) {
-        None => false,
-        Some(known) => known.meta.is_none(),
-    }
-}
-
-impl<V: View> Look for Drafted<'_, V> {
-    ghost nodes = { λ d. d };
-
-    fn meta(&self, path: &str) -> Option<&Meta> {
-        match self.draft.kept.get(path) {
-            None => self.view.meta(path),
-            Some(known) => known.meta.as_ref(),
-        }
-    }
-
-    fn acl(&self, path: &str) -> Option<&[Acl]> {
-        let gone = is_gone(self.draft, path);
-        if gone {
-            return None;
-        }
-        match self.draft.lists.get(path) {
-            None => self.view.acl(path),
-            Some(acl) => Some(acl.as_slice()),
-        }
-    }
-
-    fn brood(&self, alloc: Global, path: &str) -> Result<u64, NoMemory> {
-        let known = look(alloc, self.view, self.draft, path)?;
-        Ok(known.kids)
-    }
 }

@@ -11,7 +11,7 @@ use Rattle.kp_prep.specs.declared.plan.Plan.{Plan}
 use Rattle.kp_prep.specs.Closing.{AreLeaves, closing_plan}
 use Rattle.kp_prep.specs.Plans.{IsPlan}
 use Rattle.kp_prep.proofs.Acts.{if_ok}
-use Rattle.kp_prep.proofs.Removals.{removals_parts, removals_nodes, removals_owners, removals_told, removals_fit, removals_data, removals_among, families}
+use Rattle.kp_prep.proofs.Removals.{removals_parts, removals_nodes, removals_owners, removals_fit, removals_data, removals_among, families}
 use Rattle.kp_prep.proofs.Within.{the_one}
 
 -- the nodes go, and then the session, whatever it was before
@@ -26,7 +26,6 @@ closed_is s i id applied sessions same h =
       parts = removals_parts i id z ps h ∙ ap (λ m. parts_of (record s { nodes = shrunk_by s.nodes i ps; sessions = m })) (sym same);
       nodes = removals_nodes i id s.nodes ps h;
       owners = removals_owners i id s ps h;
-      told = removals_told i id s.nodes ps h;
       fit = removals_fit i id s.nodes ps h;
       fits = removals_data i id s.nodes ps;
       paths = removals_among i id (with_parents ps) s.nodes ps (families ps);

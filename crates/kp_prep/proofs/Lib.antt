@@ -6,6 +6,7 @@ pub mod Seen
 pub mod Acts
 pub mod Within
 pub mod Changes
+pub mod Ledgered
 pub mod Leaves
 pub mod Removals
 pub mod Drafted

@@ -1,12 +1,11 @@
 -- What was found of an entry is what it does.
-use Rattle.std.proofs.Common.{◌≡◌, ℕ, ◌+◌, Bool, true, false, not, cond, ◌||◌, ◌&&◌, List, [], ◌∷◌, Option, Some, None, refl, ap, sym, subst, ◌∙◌, true≢false}
+use Rattle.std.proofs.Common.{◌≡◌, ℕ, ◌+◌, Bool, true, false, not, cond, ◌||◌, ◌&&◌, List, [], ◌∷◌, Option, Some, None, refl, ap, sym, subst, ◌∙◌}
 use Rattle.std.specs.Prelude.{ℤ, ◌==◌, nat_le, unwrap_or, if◌then◌else◌, IsTrue}
 use Rattle.std.specs.Cmp.{nat_cmp_total}
 use Rattle.std.specs.FinMap.{nat_cmp-IsAntisymmetric}
 use Rattle.std.specs.Ordering.{eq_by_cmp, is_eq, nat_cmp}
 use Rattle.std.specs.Str.{bytes_eq}
 use Rattle.std.proofs.lemmas.Cmp.{tied_itself}
-use Rattle.std.proofs.lemmas.List.Concat.{flat_map-cons}
 use Rattle.std.proofs.lemmas.List.Elements.{All-nil, All-cons}
 use Rattle.kp_cells.proofs.Maps.{no}
 use Rattle.std.specs.FinMap as map
@@ -17,13 +16,13 @@ use Rattle.kp_model.specs.declared.reply.Reply.{Reply}
 use Rattle.kp_model.specs.declared.reply.Reply.TheVariants as reply
 use Rattle.kp_model.specs.declared.session.Origin.{Origin}
 use Rattle.kp_model.specs.declared.session.Session.{Session}
+use Rattle.kp_model.specs.Built.{is_built, is_built_cmd}
+use Rattle.kp_model.specs.declared.entry.Body.{Body}
 use Rattle.kp_model.specs.Errors.{session_expired, auth_failed, bad_arguments}
 use Rattle.kp_model.specs.Fixed.{fixed}
 use Rattle.kp_model.specs.Path.{is_well_formed}
 use Rattle.kp_model.specs.State.{State, Sessions, is_held}
 use Rattle.kp_model.specs.Touched.{Touched, touched, touched_at, touched_by, touched_in}
-use Rattle.kp_model.specs.Built.{is_built, is_built_cmd}
-use Rattle.kp_model.specs.declared.entry.Body.{Body}
 use Rattle.kp_model.specs.declared.entry.Body.TheVariants as body
 use Rattle.kp_model.specs.Step.{Outcome, unless, replies, made_path, owner_of, created, deleted, set, set_acl, act, opened, new_session, attached_to, joined, taken_over, expired, closed, shown_id, with_id, renewed, shows, written_by, with_seq, take_body, apply}
 use Rattle.kp_cells.specs.Parts.{Parts, parts_of}
@@ -31,22 +30,21 @@ use Rattle.kp_prep.specs.declared.plan.Act.{Act}
 use Rattle.kp_prep.specs.declared.plan.Plan.{Plan}
 use Rattle.kp_prep.specs.declared.plan.Effect.{Effect}
 use Rattle.kp_prep.specs.declared.plan.Effect.TheVariants as effect
-use Rattle.kp_prep.specs.Changing.{effect_changes}
 use Rattle.kp_prep.specs.Effects.{IsOn, IsFit, FitsData, IsAct, DoesOn, TellsOwner, effected, path_of}
 use Rattle.kp_prep.specs.Plans.{IsPlan, answer_plan, opening_plan, session_plan, acting_plan}
-use Rattle.kp_prep.specs.Several.{effected_by, effected_nodes_by, effects_changes, TellOwners}
+use Rattle.kp_prep.specs.Several.{effected_by, effected_nodes_by, TellOwners}
 use Rattle.kp_prep.specs.Touching.{is_one_of, IsEffectAmong}
 use Rattle.kp_prep.proofs.Within.{the_one, among_named}
 
 -- an answer alone
 pub answered_is : (k : Touched) (s : State) (applied : ℕ) (r : Reply) → IsPlan k s (replies (record s { applied = applied }) r) (answer_plan r)
-unfolding parts_of effected_by effected_nodes_by TellOwners effects_changes
-answered_is k s applied r = record { reply = refl; events = refl; parts = refl; nodes = refl; owners = tt; told = refl; fit = All-nil IsFit; fits = All-nil FitsData; paths = All-nil (IsEffectAmong k.paths); sessions = tt }
+unfolding parts_of effected_by effected_nodes_by TellOwners
+answered_is k s applied r = record { reply = refl; events = refl; parts = refl; nodes = refl; owners = tt; fit = All-nil IsFit; fits = All-nil FitsData; paths = All-nil (IsEffectAmong k.paths); sessions = tt }
 
 -- a session that is set, and an answer
 pub renewed_is : (k : Touched) (s : State) (applied id : ℕ) (x : Session) (r : Reply) → IsTrue (is_one_of k.sessions id) → IsPlan k s (replies (record s { applied = applied; sessions = map.insert s.sessions id x }) r) (session_plan id x r)
-unfolding parts_of effected_by effected_nodes_by TellOwners effects_changes
-renewed_is k s applied id x r one = record { reply = refl; events = refl; parts = refl; nodes = refl; owners = tt; told = refl; fit = All-nil IsFit; fits = All-nil FitsData; paths = All-nil (IsEffectAmong k.paths); sessions = one }
+unfolding parts_of effected_by effected_nodes_by TellOwners
+renewed_is k s applied id x r one = record { reply = refl; events = refl; parts = refl; nodes = refl; owners = tt; fit = All-nil IsFit; fits = All-nil FitsData; paths = All-nil (IsEffectAmong k.paths); sessions = one }
 
 -- a session that is not opened
 pub opened_late : (k : Touched) (s : State) (applied timeout : ℕ) (passwd : List ℕ) (origin : Origin) → (is_held s.sessions origin || nat_le 4611686018427387904 s.next) ≡ true → IsPlan k s (opened (record s { applied = applied }) timeout passwd origin) (answer_plan reply.Stale)
@@ -56,8 +54,8 @@ opened_late k s applied timeout passwd origin late =
     subst (λ b. IsPlan k s (if b then replies z reply.Stale else replies (record z { sessions = map.insert z.sessions z.next (new_session timeout passwd origin); next = z.next + 1 }) (reply.Session z.next)) (answer_plan reply.Stale)) (sym late) (answered_is k s applied reply.Stale)
 
 opened_is : (timeout : ℕ) (passwd : List ℕ) (origin : Origin) (s : State) (applied : ℕ) (x : Session) → IsPlan (touched_by s (body.OpenSession timeout passwd origin)) s (replies (record s { applied = applied; sessions = map.insert s.sessions s.next x; next = s.next + 1 }) (reply.Session s.next)) (opening_plan s.next x)
-unfolding parts_of effected_by effected_nodes_by TellOwners effects_changes
-opened_is timeout passwd origin s applied x = record { reply = refl; events = refl; parts = refl; nodes = refl; owners = tt; told = refl; fit = All-nil IsFit; fits = All-nil FitsData; paths = All-nil (IsEffectAmong []); sessions = the_one s.next }
+unfolding parts_of effected_by effected_nodes_by TellOwners
+opened_is timeout passwd origin s applied x = record { reply = refl; events = refl; parts = refl; nodes = refl; owners = tt; fit = All-nil IsFit; fits = All-nil FitsData; paths = All-nil (IsEffectAmong []); sessions = the_one s.next }
 
 -- a session that is opened
 pub opened_new : (s : State) (applied timeout : ℕ) (passwd : List ℕ) (origin : Origin) → (is_held s.sessions origin || nat_le 4611686018427387904 s.next) ≡ false → IsPlan (touched_by s (body.OpenSession timeout passwd origin)) s (opened (record s { applied = applied }) timeout passwd origin) (opening_plan s.next (new_session timeout passwd origin))
@@ -129,7 +127,7 @@ tells_moved s i sessions e h = h
 
 -- an act of a session that has the number then
 pub acted_is : (s : State) (ids : List (List ℕ)) (i t id : ℕ) (x : Session) (c : Cmd) (a : Act) → DoesOn (path_of s.nodes c) s.nodes (λ z. act z id ids i t c) a → IsPlan (touched_in s id c) s (act (record s { applied = i; sessions = map.insert s.sessions id x }) id ids i t c) (acting_plan id x a)
-unfolding effected_by effected_nodes_by TellOwners effects_changes
+unfolding effected_by effected_nodes_by TellOwners
 acted_is s ids i t id x c a does =
     let sessions : Sessions = map.insert s.sessions id x in
     let h = does (record s { applied = i; sessions = sessions }) in
@@ -139,7 +137,6 @@ acted_is s ids i t id x c a does =
       parts = parts_moved s i id x a.effect ∙ h.parts;
       nodes = h.nodes;
       owners = (tells_moved s i sessions a.effect h.owner, tt);
-      told = sym (flat_map-cons (effect_changes s.nodes) a.effect []);
       fit = All-cons IsFit a.effect [] (fit_on (path_of s.nodes c) a.effect h.on) (All-nil IsFit);
       fits = All-cons FitsData a.effect [] h.fits (All-nil FitsData);
       paths = All-cons (IsEffectAmong (touched_in s id c).paths) a.effect [] (among_named s.nodes id c a.effect h.on) (All-nil (IsEffectAmong (touched_in s id c).paths));
@@ -192,29 +189,29 @@ shown_one s i t id seq x scheme auth made is =
     subst (λ y. IsPlan k s (replies (record z { sessions = y }) reply.Done) p) (sym (set_again s.sessions id (with_seq seq x) (with_id made (with_seq seq x))))
     (renewed_is k s i id (with_id made (with_seq seq x)) reply.Done (the_one id))))
 
--- a body that is no multi touches what its parts do
-touched_cmd : (s : State) (i t session epoch seq : ℕ) (c : Cmd) → IsTrue (is_built_cmd c) → touched_at s i t (body.Write session epoch seq c) ≡ touched_in s session c
-touched_cmd s i t session epoch seq (cmd.Create path bytes acl flags stat) built = refl
-touched_cmd s i t session epoch seq (cmd.Delete path version) built = refl
-touched_cmd s i t session epoch seq (cmd.SetData path bytes version) built = refl
-touched_cmd s i t session epoch seq (cmd.SetAcl path acl version) built = refl
-touched_cmd s i t session epoch seq (cmd.Check path version) built = refl
-touched_cmd s i t session epoch seq (cmd.Auth scheme auth) built = refl
-touched_cmd s i t session epoch seq (cmd.Multi ops) built = absurd (true≢false (sym built))
-touched_cmd s i t session epoch seq (cmd.Sync path) built = refl
-touched_cmd s i t session epoch seq cmd.CloseSession built = refl
+-- a command that is no multi touches what it names
+touched_alone : (s : State) (i t id epoch seq : ℕ) (c : Cmd) → IsTrue (is_built_cmd c) → touched_at s i t (body.Write id epoch seq c) ≡ touched_in s id c
+touched_alone s i t id epoch seq (cmd.Create path bytes acl flags stat) h = refl
+touched_alone s i t id epoch seq (cmd.Delete path version) h = refl
+touched_alone s i t id epoch seq (cmd.SetData path bytes version) h = refl
+touched_alone s i t id epoch seq (cmd.SetAcl path acl version) h = refl
+touched_alone s i t id epoch seq (cmd.Check path version) h = refl
+touched_alone s i t id epoch seq (cmd.Sync path) h = refl
+touched_alone s i t id epoch seq (cmd.Auth scheme auth) h = refl
+touched_alone s i t id epoch seq (cmd.Multi ops) h = no false refl h
+touched_alone s i t id epoch seq cmd.CloseSession h = refl
 
-touched_body : (s : State) (i t : ℕ) (b : Body) → IsTrue (is_built b) → touched_at s i t b ≡ touched_by s b
-touched_body s i t body.Noop built = refl
-touched_body s i t (body.OpenSession timeout passwd origin) built = refl
-touched_body s i t (body.Attach session passwd origin) built = refl
-touched_body s i t (body.Expire session) built = refl
-touched_body s i t (body.Write session epoch seq c) built = touched_cmd s i t session epoch seq c built
+touched_named : (s : State) (i t : ℕ) (b : Body) → IsTrue (is_built b) → touched_at s i t b ≡ touched_by s b
+touched_named s i t body.Noop h = refl
+touched_named s i t (body.OpenSession timeout passwd origin) h = refl
+touched_named s i t (body.Attach id passwd origin) h = refl
+touched_named s i t (body.Expire id) h = refl
+touched_named s i t (body.Write id epoch seq c) h = touched_alone s i t id epoch seq c h
 
 -- the entry is taken at the index behind the applied one
 pub planned_entry : (s : State) (i : ℕ) (d e : LogEntry) (p : Plan) → s.applied + 1 ≡ i → d ≡ e → IsTrue (is_built e.body) → IsPlan (touched_by s d.body) s (take_body (record s { applied = i }) i d.time d.body) p → IsPlan (touched s e) s (apply s e) p
 unfolding apply touched
 planned_entry s i d e p next same built h =
     subst (λ z. IsPlan (touched s z) s (apply s z) p) same (
-    subst (λ k. IsPlan k s (apply s d) p) (sym (touched_body s (s.applied + 1) d.time d.body (subst (λ (z : LogEntry). IsTrue (is_built z.body)) (sym same) built)))
+    subst (λ k. IsPlan k s (apply s d) p) (sym (touched_named s (s.applied + 1) d.time d.body (subst (λ (z : LogEntry). IsTrue (is_built z.body)) (sym same) built)))
     (subst (λ n. IsPlan (touched_by s d.body) s (take_body (record s { applied = n }) n d.time d.body) p) (sym next) h))

@@ -27,7 +27,7 @@ use Rattle.kp_prep.specs.Changing.{renumbered_value, node_changes, effect_change
 use Rattle.kp_prep.specs.Closing.{IsLeaf, AreLeaves}
 use Rattle.kp_prep.specs.Drafts.{up_left, removal, removals}
 use Rattle.kp_prep.specs.Effects.{OwnerIs, IsFit, FitsData, effected, effected_nodes, without_child_shown}
-use Rattle.kp_prep.specs.Several.{effected_by, effected_nodes_by, effects_changes, TellOwners, AreTold}
+use Rattle.kp_prep.specs.Several.{effected_by, effected_nodes_by, effects_changes, TellOwners}
 use Rattle.kp_prep.specs.Touching.{is_among, IsFamilyAmong, IsEffectAmong}
 use Rattle.kp_prep.proofs.Acts.{owner_told}
 use Rattle.kp_prep.proofs.Leaves.{shrunk_is, get-shrunk, up_apart, leaves_left}
@@ -114,42 +114,6 @@ module _ (i id : ℕ) where
   unfolding removals
   removals_among touched nodes [] h = All-nil (IsEffectAmong touched)
   removals_among touched nodes (p ∷ ps) h = All-cons (IsEffectAmong touched) (removal i id nodes p) (removals i id (shrunk nodes i p) ps) h.0 (removals_among touched (shrunk nodes i p) ps h.1)
-
-  -- the changes of a removal depend on what is at the parent, but for its numbers
-  abbrev IsAlike : Nodes → Nodes → List ℕ → Type 0
-  IsAlike nodes now p = (m : Meta) → renumbered_value m (fin.get now (parent p)) ≡ renumbered_value m (fin.get nodes (parent p))
-
-  alike_after : (nodes now : Nodes) (p q : List ℕ) → (id == 0) ≡ false → IsLeaf now id p → IsLeaf now id q → IsAlike nodes now q → IsAlike nodes (shrunk now i p) q
-  alike_after nodes now p q live h g same = λ m.
-      ap (renumbered_value m) (get-shrunk i now p h.up h.above (parent q))
-      ∙ ap (λ b. renumbered_value m (cond b None (cond (eq_by_cmp path_cmp (parent q) (parent p)) (Some (without_child i h.up)) (fin.get now (parent q))))) (up_apart i id live now p q h g)
-      ∙ cases m (eq_by_cmp path_cmp (parent q) (parent p)) refl
-      ∙ same m where
-        cases : (m : Meta) (b : Bool) → eq_by_cmp path_cmp (parent q) (parent p) ≡ b → renumbered_value m (cond b (Some (without_child i h.up)) (fin.get now (parent q))) ≡ renumbered_value m (fin.get now (parent q))
-        cases m true e = sym (ap (renumbered_value m) (ap (fin.get now) (tied path_same (parent q) (parent p) e) ∙ h.above))
-        cases m false e = refl
-
-  all_alike_after : (nodes now : Nodes) (p : List ℕ) (qs : List (List ℕ)) → (id == 0) ≡ false → IsLeaf now id p → AllByRecursion (IsLeaf now id) qs → AllByRecursion (IsAlike nodes now) qs → AllByRecursion (IsAlike nodes (shrunk now i p)) qs
-  all_alike_after nodes now p [] live h g same = tt
-  all_alike_after nodes now p (q ∷ qs) live h g same = (alike_after nodes now p q live h g.0 same.0, all_alike_after nodes now p qs live h g.1 same.1)
-
-  told_from : (nodes now : Nodes) (ps : List (List ℕ)) → AreLeaves now id ps → AllByRecursion (IsAlike nodes now) ps → effects_changes now (removals i id now ps) ≡ flat_map (effect_changes nodes) (removals i id now ps)
-  unfolding effects_changes removals
-  told_from nodes now [] h same = refl
-  told_from nodes now (p ∷ ps) h same =
-      let e : Effect = removal i id now p in
-      let rest : List Effect = removals i id (shrunk now i p) ps in
-      ap (λ x. effect_changes now e ++ effects_changes x rest) (removal_nodes now p h.leaves.0.up h.leaves.0.above)
-      ∙ ap (λ cs. (node_changes (parent p) cs ++ change.Node p None ∷ []) ++ effects_changes (shrunk now i p) rest) (same.0 (up_left i now p))
-      ∙ ap (λ cs. effect_changes nodes e ++ cs) (told_from nodes (shrunk now i p) ps (leaves_left i now id p ps h) (all_alike_after nodes now p ps h.live h.leaves.0 h.leaves.1 same.1))
-      ∙ sym (flat_map-cons (effect_changes nodes) e rest)
-
-  all_alike : (nodes : Nodes) (ps : List (List ℕ)) → AllByRecursion (IsAlike nodes nodes) ps
-  all_alike nodes [] = tt
-  all_alike nodes (p ∷ ps) = ((λ m. refl), all_alike nodes ps)
-
-  pub removals_told : (nodes : Nodes) (ps : List (List ℕ)) → AreLeaves nodes id ps → AreTold nodes (removals i id nodes ps)
-  removals_told nodes ps h = told_from nodes nodes ps h (all_alike nodes ps)
 
 pub removals_none : (i id : ℕ) (nodes : Nodes) → removals i id nodes [] ≡ []
 unfolding removals

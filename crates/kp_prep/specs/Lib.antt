@@ -4,6 +4,7 @@ pub mod Effects
 pub mod Staged
 pub mod Changing
 pub mod Several
+pub mod Ledgers
 pub mod Plans
 pub mod Drafts
 pub mod Closing

@@ -1,6 +1,6 @@
 -- What an entry is found to do, and what that makes of the parts of a state.
 use Rattle.std.specs.Prelude.{◌≡◌, ℕ, ◌+◌, List, [], ◌∷◌, ◌++◌, Option, Some, None}
-use Rattle.std.specs.List.{All, flat_map}
+use Rattle.std.specs.List.{All}
 use Rattle.kp_layers.specs.Overlay.{put}
 use Rattle.kp_model.specs.declared.session.Session.{Session}
 use Rattle.kp_model.specs.declared.reply.Reply.{Reply}
@@ -14,8 +14,8 @@ use Rattle.kp_cells.specs.declared.change.Change.{Change}
 use Rattle.kp_prep.specs.declared.plan.Act.{Act}
 use Rattle.kp_prep.specs.declared.plan.Plan.{Plan}
 use Rattle.kp_prep.specs.Effects.{IsFit, FitsData}
-use Rattle.kp_prep.specs.Several.{effected_by, effected_nodes_by, TellOwners, staged_effects, AreTold}
-use Rattle.kp_prep.specs.Changing.{session_changes, next_changes, effect_changes}
+use Rattle.kp_prep.specs.Several.{effected_by, effected_nodes_by, TellOwners, effects_changes, staged_effects}
+use Rattle.kp_prep.specs.Changing.{session_changes, next_changes}
 use Rattle.kp_prep.specs.Staged.{staged_session, staged_next}
 use Rattle.kp_prep.specs.Touching.{IsEffectAmong, IsSessionAmong}
 
@@ -34,7 +34,7 @@ planned p plan = effected_by (record p { sessions = settled p.sessions plan.sess
 
 -- the changes of a plan on these nodes
 abbrev pub plan_changes : Nodes → Plan → List Change
-plan_changes nodes p = (session_changes p.session ++ next_changes p.next) ++ flat_map (effect_changes nodes) p.effects
+plan_changes nodes p = (session_changes p.session ++ next_changes p.next) ++ effects_changes nodes p.effects
 
 -- all writes of a plan
 abbrev pub staged_plan : Overlays → Plan → Overlays
@@ -63,7 +63,6 @@ pub record IsPlan (t : Touched) (s : State) (o : Outcome) (p : Plan) : Type 0 wh
   pub parts : planned (parts_of s) p ≡ parts_of o.state
   pub nodes : effected_nodes_by s.nodes p.effects ≡ o.state.nodes
   pub owners : TellOwners (parts_of s) p.effects
-  pub told : AreTold s.nodes p.effects
   pub fit : All IsFit p.effects
   pub fits : All FitsData p.effects
   pub paths : All (IsEffectAmong t.paths) p.effects

@@ -1,6 +1,5 @@
 -- Effects, one after the other.
-use Rattle.std.specs.Prelude.{◌≡◌, List, [], ◌∷◌, ◌++◌}
-use Rattle.std.specs.List.{flat_map}
+use Rattle.std.specs.Prelude.{List, [], ◌∷◌, ◌++◌}
 use Rattle.kp_model.specs.State.{Nodes}
 use Rattle.kp_cells.specs.Overlays.{Overlays}
 use Rattle.kp_cells.specs.Parts.{Parts}
@@ -34,7 +33,3 @@ staged_effects o (e ∷ es) = staged_effects (staged_effect o e) es
 unfoldable pub effects_changes : Nodes → List Effect → List Change
 effects_changes nodes [] = []
 effects_changes nodes (e ∷ es) = effect_changes nodes e ++ effects_changes (effected_nodes nodes e) es
-
--- the changes of each effect can be told from the nodes before all of them
-abbrev pub AreTold : Nodes → List Effect → Type 0
-AreTold nodes es = effects_changes nodes es ≡ flat_map (effect_changes nodes) es

@@ -1,17 +1,21 @@
 //! The changes of an entry, as a list.
 
 ghost use Rattle.std.specs.Prelude.{◌≡◌, ◌+◌, ◌++◌, IfOk, OnOk, IsTrue};
-ghost use Rattle.std.specs.List.{All, flat_map, list_all};
+ghost use Rattle.std.specs.List.{All, list_all};
 ghost use Rattle.std.specs.FinMap as map;
 ghost use Rattle.kp_model.specs.Built.{is_built};
 ghost use Rattle.kp_model.specs.Good.{IsSound};
 ghost use Rattle.kp_model.specs.Path.{parent};
+ghost use Rattle.kp_model.specs.State.{State};
 ghost use Rattle.kp_model.specs.Step.{apply};
 ghost use Rattle.kp_prep.specs.Changing.{set_all, fits_change, session_changes, next_changes, effect_changes, node_changes, renumbered_value, refilled_value, relisted_value};
 ghost use Rattle.kp_prep.specs.Effects.{IsFamily, IsFit};
+ghost use Rattle.kp_prep.specs.Ledgers.{IsLedger, nodes_behind};
 ghost use Rattle.kp_prep.specs.Plans.{plan_changes};
+ghost use Rattle.kp_prep.specs.Several.{effects_changes};
 
 use crate::entry::plan;
+use crate::ledger::{Ledger, acl, begin, change, content, end};
 use crate::plan::{Effect, Effects, Plan, Prepared};
 use kp_cells::{Change, Changes, NodeValue};
 use kp_model::{Acl, Acls, Bytes, Entry, Meta, NoMemory, Session, Text, View};
@@ -61,8 +65,10 @@ fn listed<V: View>(alloc: Global, view: &V, plan: Plan) -> Result<Decided, NoMem
     let mut changes = Changes::new(alloc);
     push_session(&mut changes, session)?;
     push_next(&mut changes, next)?;
-    push_effects(alloc, view, &mut changes, effects)?;
-    Ok(Decided { prepared, changes })
+    Ok(Decided {
+        prepared,
+        changes: with_effects(alloc, view, changes, effects)?,
+    })
 }
 
 // Adds the change of a session that is set or goes, where there is one.
@@ -88,18 +94,35 @@ fn push_next(changes: &mut Changes, next: Option<u64>) -> Result<(), NoMemory>
     }
 }
 
-// Adds the changes of effects, each told from the view.
+// These changes, which change no node, and then those of effects.
+fn with_effects<V: View>(
+    alloc: Global,
+    view: &V,
+    changes: Changes,
+    effects: Effects,
+) -> Result<Changes, NoMemory>
+    requires fit { All IsFit effects }
+    requires none { nodes_behind (V.state view.now) changes ≡ (V.state view.now).nodes }
+    ensures { IfOk result (λ cs. cs ≡ changes ++ effects_changes (V.state view.now).nodes effects) }
+{
+    let mut ledger = begin(alloc, changes);
+    push_effects(alloc, view, &mut ledger, effects)?;
+    Ok(end(ledger))
+}
+
+// Adds the changes of effects, of each on the nodes behind those before it.
 fn push_effects<V: View>(
     alloc: Global,
     view: &V,
-    changes: &mut Changes,
+    ledger: &mut Ledger,
     effects: Effects,
 ) -> Result<(), NoMemory>
-    requires { All IsFit effects }
-    ensures { OnOk result (changes.new ≡ changes.old ++ flat_map (effect_changes (V.state view.now).nodes) effects) }
+    requires fit { All IsFit effects }
+    requires ledger { IsLedger (V.state view.now) ledger.old.changes ledger.old.places.entries }
+    ensures { OnOk result (ledger.new.changes ≡ ledger.old.changes ++ effects_changes (nodes_behind (V.state view.now) ledger.old.changes) effects) }
 {
     for effect in effects.into_vec() {
-        push_effect(alloc, view, changes, effect)?;
+        push_effect(alloc, view, ledger, effect)?;
     }
     Ok(())
 }
@@ -108,11 +131,13 @@ fn push_effects<V: View>(
 fn push_effect<V: View>(
     alloc: Global,
     view: &V,
-    changes: &mut Changes,
+    ledger: &mut Ledger,
     effect: Effect,
 ) -> Result<(), NoMemory>
-    requires { IsFit effect }
-    ensures { OnOk result (changes.new ≡ changes.old ++ effect_changes (V.state view.now).nodes effect) }
+    requires fit { IsFit effect }
+    requires ledger { IsLedger (V.state view.now) ledger.old.changes ledger.old.places.entries }
+    ensures changes { OnOk result (ledger.new.changes ≡ ledger.old.changes ++ effect_changes (nodes_behind (V.state view.now) ledger.old.changes) effect) }
+    ensures ledger { OnOk result (IsLedger (V.state view.now) ledger.new.changes ledger.new.places.entries) }
 {
     match effect {
         Effect::Nothing => Ok(()),
@@ -123,20 +148,20 @@ fn push_effect<V: View>(
             meta,
             up,
         } => {
-            push_up(alloc, view, changes, path.as_str(), up)?;
-            changes.push(Change::Node(path, Some(NodeValue { bytes, acl, meta })))
+            push_up(alloc, view, ledger, path.as_str(), up)?;
+            change(alloc, ledger, path, Some(NodeValue { bytes, acl, meta }))
         }
         Effect::Remove { path, up, .. } => {
-            push_up(alloc, view, changes, path.as_str(), up)?;
-            changes.push(Change::Node(path, None))
+            push_up(alloc, view, ledger, path.as_str(), up)?;
+            change(alloc, ledger, path, None)
         }
         Effect::Set { path, bytes, meta } => {
-            let node = refilled(alloc, view, path.as_str(), bytes, meta)?;
-            push_node(changes, path, node)
+            let node = refilled(alloc, view, ledger, path.as_str(), bytes, meta)?;
+            push_node(alloc, ledger, path, node)
         }
         Effect::SetAcl { path, acl, meta } => {
-            let node = relisted(alloc, view, path.as_str(), acl, meta)?;
-            push_node(changes, path, node)
+            let node = relisted(alloc, view, ledger, path.as_str(), acl, meta)?;
+            push_node(alloc, ledger, path, node)
         }
     }
 }
@@ -145,61 +170,73 @@ fn push_effect<V: View>(
 fn push_up<V: View>(
     alloc: Global,
     view: &V,
-    changes: &mut Changes,
+    ledger: &mut Ledger,
     path: &str,
     up: Meta,
 ) -> Result<(), NoMemory>
-    requires { IsFamily path.now }
-    ensures { OnOk result (changes.new ≡ changes.old ++ node_changes (parent path.now) (renumbered_value up (map.get (V.state view.now).nodes (parent path.now)))) }
+    requires family { IsFamily path.now }
+    requires ledger { IsLedger (V.state view.now) ledger.old.changes ledger.old.places.entries }
+    ensures changes { OnOk result (ledger.new.changes ≡ ledger.old.changes ++ node_changes (parent path.now) (renumbered_value up (map.get (nodes_behind (V.state view.now) ledger.old.changes) (parent path.now)))) }
+    ensures ledger { OnOk result (IsLedger (V.state view.now) ledger.new.changes ledger.new.places.entries) }
 {
     match kp_path::parent(path) {
         None => Ok(()),
         Some(above) => {
-            let node = renumbered(alloc, view, above, up)?;
-            push_node(changes, Text::from_str(alloc, above)?, node)
+            let node = renumbered(alloc, view, ledger, above, up)?;
+            push_node(alloc, ledger, Text::from_str(alloc, above)?, node)
         }
     }
 }
 
 // Adds that a node is set, where there is a value for it.
-fn push_node(changes: &mut Changes, path: Text, node: Option<NodeValue>) -> Result<(), NoMemory>
-    ensures { OnOk result (changes.new ≡ changes.old ++ node_changes path node) }
+fn push_node(
+    alloc: Global,
+    ledger: &mut Ledger,
+    path: Text,
+    node: Option<NodeValue>,
+) -> Result<(), NoMemory>
+    ensures changes { OnOk result (ledger.new.changes ≡ ledger.old.changes ++ node_changes path node) }
+    ensures ledger { OnOk result ((s : State) → IsLedger s ledger.old.changes ledger.old.places.entries → IsLedger s ledger.new.changes ledger.new.places.entries) }
 {
     match node {
         None => Ok(()),
-        Some(node) => changes.push(Change::Node(path, Some(node))),
+        Some(node) => change(alloc, ledger, path, Some(node)),
     }
 }
 
-// The node at a path with other numbers; None where there is none.
+// The node at a path behind the changes, with other numbers; None where there is none.
 fn renumbered<V: View>(
     alloc: Global,
     view: &V,
+    ledger: &Ledger,
     path: &str,
     meta: Meta,
 ) -> Result<Option<NodeValue>, NoMemory>
-    ensures { IfOk result (λ v. v ≡ renumbered_value meta (map.get (V.state view.now).nodes path.now)) }
+    requires { IsLedger (V.state view.now) ledger.now.changes ledger.now.places.entries }
+    ensures { IfOk result (λ v. v ≡ renumbered_value meta (map.get (nodes_behind (V.state view.now) ledger.now.changes) path.now)) }
 {
-    match view.content(path) {
+    match content(view, ledger, path) {
         None => Ok(None),
         Some(bytes) => {
             let bytes = Bytes::from_vec(Vec::from_slice(alloc, bytes)?);
-            refilled(alloc, view, path, bytes, meta)
+            refilled(alloc, view, ledger, path, bytes, meta)
         }
     }
 }
 
-// The node at a path with other data and numbers; None where there is none.
+// The node at a path behind the changes, with other data and numbers; None where there is none.
 fn refilled<V: View>(
     alloc: Global,
     view: &V,
+    ledger: &Ledger,
     path: &str,
     bytes: Bytes,
     meta: Meta,
 ) -> Result<Option<NodeValue>, NoMemory>
-    ensures { IfOk result (λ v. v ≡ refilled_value bytes meta (map.get (V.state view.now).nodes path.now)) }
+    requires { IsLedger (V.state view.now) ledger.now.changes ledger.now.places.entries }
+    ensures { IfOk result (λ v. v ≡ refilled_value bytes meta (map.get (nodes_behind (V.state view.now) ledger.now.changes) path.now)) }
 {
-    match view.acl(path) {
+    match acl(view, ledger, path) {
         None => Ok(None),
         Some(acl) => Ok(Some(NodeValue {
             bytes,
@@ -209,17 +246,19 @@ fn refilled<V: View>(
     }
 }
 
-// The node at a path with another list and numbers; None where there is none.
+// The node at a path behind the changes, with another list and numbers; None where there is none.
 fn relisted<V: View>(
     alloc: Global,
     view: &V,
+    ledger: &Ledger,
     path: &str,
     acl: Acls,
     meta: Meta,
 ) -> Result<Option<NodeValue>, NoMemory>
-    ensures { IfOk result (λ v. v ≡ relisted_value acl meta (map.get (V.state view.now).nodes path.now)) }
+    requires { IsLedger (V.state view.now) ledger.now.changes ledger.now.places.entries }
+    ensures { IfOk result (λ v. v ≡ relisted_value acl meta (map.get (nodes_behind (V.state view.now) ledger.now.changes) path.now)) }
 {
-    match view.content(path) {
+    match content(view, ledger, path) {
         None => Ok(None),
         Some(bytes) => Ok(Some(NodeValue {
             bytes: Bytes::from_vec(Vec::from_slice(alloc, bytes)?),

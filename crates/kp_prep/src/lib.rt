@@ -8,6 +8,7 @@ mod creation;
 mod deciding;
 mod draft;
 mod entry;
+mod ledger;
 mod look;
 mod plan;
 mod preparing;

@@ -1,15 +1,5 @@
 mod LineSplits
-mod Numerals
-mod LineWords
 mod Streams
-mod Spelled
 mod Paces
 mod Looks
 mod Runs
-mod Parted
-mod Visible
-mod Hexadecimal
-mod Versions
-mod NameTexts
-mod LinesRead
-mod LinesSpelled

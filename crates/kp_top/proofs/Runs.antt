@@ -7,13 +7,13 @@ use Rattle.kp_model.specs.Store.{last, commit_leaves, truncated}
 use Rattle.kp_model.proofs.Applied.{applied-apply}
 use Rattle.kp_model.specs.LogEntry.{LogEntry}
 use Rattle.kp_model.specs.declared.entry.Body.{Body}
-use Rattle.kp_top.specs.declared.line.StoreLine.{StoreLine}
-use Rattle.kp_top.specs.declared.line.StoreLine.TheVariants.{Time, Open, Noop, Create, Delete, Set, Check, Commit, Truncate, Peek, See, Kids, Ls}
-use Rattle.kp_top.specs.Lines.{line_of}
+use Rattle.kp_text.specs.declared.line.StoreLine.{StoreLine}
+use Rattle.kp_text.specs.declared.line.StoreLine.TheVariants.{Time, Open, Attach, Expire, Noop, Write, Raw, Commit, Truncate, Peek, See, Kids, Ls, Acl, Who}
+use Rattle.kp_text.specs.Lines.{line_of}
 use Rattle.kp_top.specs.Transcript.{Work, blank, transcript, Turn, looks, turn, entered, committed, cut, printed, first_bad}
 use Rattle.kp_top.specs.Run.{printed_line, TakenAs}
 use Rattle.kp_top.specs.declared.taken.Taken.TheVariants as taken
-use Rattle.kp_top.specs.Words.{lines_of}
+use Rattle.kp_top.specs.InputLines.{lines_of}
 use Rattle.kp_top.specs.Texts.{cut_text}
 use Rattle.std.proofs.lemmas.Grind.{common_steps}
 use lib.Chars.{codes}
@@ -97,17 +97,19 @@ pub last_turn : (d : Work) (n : ℕ) (l : StoreLine) → last (turn d n l).work.
 unfolding turn
 last_turn d n (Time t) = omega arith
 last_turn d n (Open timeout passwd) = enters d _
+last_turn d n (Attach session passwd) = enters d _
+last_turn d n (Expire session) = enters d _
 last_turn d n Noop = enters d _
-last_turn d n (Create session path bytes) = enters d _
-last_turn d n (Delete session path version) = enters d _
-last_turn d n (Set session path bytes version) = enters d _
-last_turn d n (Check session path version) = enters d _
+last_turn d n (Write session c) = enters d _
+last_turn d n (Raw session epoch seq c) = enters d _
 last_turn d n Commit = commits d
 last_turn d n (Truncate k) = cuts d k
 last_turn d n (Peek path) = omega arith
 last_turn d n (See path) = omega arith
 last_turn d n (Kids path) = omega arith
 last_turn d n (Ls path) = omega arith
+last_turn d n (Acl path) = omega arith
+last_turn d n (Who session) = omega arith
 
 pub blank_last : last blank.store ≡ 0
 unfolding state.empty

@@ -1,7 +1,6 @@
-pub mod Words
-pub mod Lines
-pub mod Spelling
+pub mod InputLines
 pub mod Texts
+pub mod LineCommands
 pub mod Transcript
 pub mod Output
 pub mod Run

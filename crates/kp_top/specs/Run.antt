@@ -6,8 +6,8 @@ use Rattle.kp_top.specs.declared.status.Status.{Status}
 use Rattle.kp_top.specs.declared.status.Status.TheVariants as status
 use Rattle.kp_top.specs.declared.taken.Taken.{Taken}
 use Rattle.kp_top.specs.declared.taken.Taken.TheVariants as taken
-use Rattle.kp_top.specs.declared.line.StoreLine.{StoreLine}
-use Rattle.kp_top.specs.Lines.{line_of}
+use Rattle.kp_text.specs.declared.line.StoreLine.{StoreLine}
+use Rattle.kp_text.specs.Lines.{line_of}
 use Rattle.kp_top.specs.Transcript.{Work, turn}
 use Rattle.kp_top.specs.Output.{WroteAll, WrotePart}
 use lib.Chars.{codes}

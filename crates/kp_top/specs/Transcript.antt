@@ -1,21 +1,22 @@
 -- What the lines of a store print.
-use Rattle.std.specs.Prelude.{ℕ, ◌+◌, ◌&&◌, false, nat_le, List, [], ◌∷◌, ◌++◌, Option, Some, None, if◌then◌else◌, refl}
+use Rattle.std.specs.Prelude.{ℕ, ◌+◌, ◌&&◌, nat_le, List, [], ◌∷◌, ◌++◌, Option, Some, None, if◌then◌else◌, refl}
 use Rattle.std.specs.Option.{option_map}
 use Rattle.std.specs.FinMap as map
 use Rattle.std.specs.Coded.{Coded, code_by, coded×, coded_ℕ}
+use Rattle.kp_model.specs.declared.session.Origin.{Origin}
 use Rattle.kp_model.specs.declared.session.Session.{Session}
 use Rattle.kp_model.specs.declared.entry.Body.{Body}
 use Rattle.kp_model.specs.declared.entry.Body.TheVariants as body
 use Rattle.kp_model.specs.declared.command.Cmd.{Cmd}
-use Rattle.kp_model.specs.declared.command.Cmd.TheVariants as cmd
-use Rattle.kp_model.specs.State.{Nodes, open_acl, kids, seen}
+use Rattle.kp_model.specs.State.{Nodes, kids, seen, acl_at}
 use Rattle.kp_model.specs.Store.{Store, empty, latest, last, with_entry, kept, truncated, commit_answer, commit_leaves}
 use Rattle.kp_model.specs.Codes.{store_code}
-use Rattle.kp_top.specs.declared.line.StoreLine.{StoreLine}
-use Rattle.kp_top.specs.declared.line.StoreLine.TheVariants.{Time, Open, Noop, Create, Delete, Set, Check, Commit, Truncate, Peek, See, Kids, Ls}
-use Rattle.kp_top.specs.Words.{lines_of}
-use Rattle.kp_top.specs.Lines.{line_of}
-use Rattle.kp_top.specs.Texts.{seen_text, kids_text, pre_text, done_text, time_text, cut_text}
+use Rattle.kp_text.specs.declared.line.StoreLine.{StoreLine}
+use Rattle.kp_text.specs.declared.line.StoreLine.TheVariants.{Time, Open, Attach, Expire, Noop, Write, Raw, Commit, Truncate, Peek, See, Kids, Ls, Acl, Who}
+use Rattle.kp_top.specs.InputLines.{lines_of}
+use Rattle.kp_top.specs.LineCommands.{cmd_of}
+use Rattle.kp_text.specs.Lines.{line_of}
+use Rattle.kp_top.specs.Texts.{seen_text, kids_text, acl_text, who_text, pre_text, done_text, time_text, cut_text}
 use lib.Chars.{codes}
 
 -- a store at work: what it holds, and the time that the next entries get
@@ -77,21 +78,27 @@ cut w k = if nat_le w.store.state.applied k && nat_le k (last w.store)
     then record { text = cut_text k; work = record w { store = truncated w.store k } }
     else looks w (codes "cut refused")
 
+-- the origin of a session that the n-th line opens or takes over
+abbrev pub origin_of : ℕ → Origin
+origin_of n = record { node = 0; boot = 0; conn = n }
+
 -- one line, the n-th
 unfoldable pub turn : Work → ℕ → StoreLine → Turn
 turn w n (Time t) = record { text = time_text t; work = record w { time = t } }
-turn w n (Open timeout passwd) = entered w (body.OpenSession timeout passwd (record { node = 0; boot = 0; conn = n }))
+turn w n (Open timeout passwd) = entered w (body.OpenSession timeout passwd (origin_of n))
+turn w n (Attach session passwd) = entered w (body.Attach session passwd (origin_of n))
+turn w n (Expire session) = entered w (body.Expire session)
 turn w n Noop = entered w body.Noop
-turn w n (Create session path bytes) = entered w (write_of w.store session (cmd.Create path bytes open_acl 0 false))
-turn w n (Delete session path version) = entered w (write_of w.store session (cmd.Delete path version))
-turn w n (Set session path bytes version) = entered w (write_of w.store session (cmd.SetData path bytes version))
-turn w n (Check session path version) = entered w (write_of w.store session (cmd.Check path version))
+turn w n (Write session c) = entered w (write_of w.store session (cmd_of c))
+turn w n (Raw session epoch seq c) = entered w (body.Write session epoch seq (cmd_of c))
 turn w n Commit = committed w
 turn w n (Truncate k) = cut w k
 turn w n (Peek path) = looks w (seen_text (codes "peek") (seen (latest w.store).nodes path))
 turn w n (See path) = looks w (seen_text (codes "see") (seen w.store.state.nodes path))
 turn w n (Kids path) = looks w (kids_text (codes "kids") (kids_at (latest w.store).nodes path))
 turn w n (Ls path) = looks w (kids_text (codes "ls") (kids_at w.store.state.nodes path))
+turn w n (Acl path) = looks w (acl_text (acl_at (latest w.store).nodes path))
+turn w n (Who session) = looks w (who_text (map.get (latest w.store).sessions session))
 
 -- what the lines from the n-th on print, each with a line feed, up to the first that is none
 unfoldable pub printed : Work → ℕ → List (List ℕ) → List ℕ

@@ -2,14 +2,15 @@
 //! drawn by a small generator, go through both, and every text that either prints is compared.
 ghost use Rattle.std.specs.Prelude.{◌<◌, ◌≤◌, IfOk, IfSome, IsTrue};
 ghost use Rattle.kp_model.specs.Grammar.{is_body};
-ghost use Rattle.kp_model.specs.Built.{is_built, is_built_cmd};
 
+use crate::line_commands::cmd_of;
 use crate::print::{done_text, kids_text, no_kids_text, pre_text, seen_text};
-use crate::work::{children, create_cmd, peek, see};
+use crate::work::{children, peek, see};
 use kp_model::{Body, Bytes, Cmd, Committed, Entry, NoMemory, Origin, Paths, Seen, Text};
 use kp_plain::PlainStore;
 use kp_storage::Storage;
-use std::alloc::{AllocError, Global};
+use kp_text::{Command, Operation};
+use std::alloc::Global;
 use std::test::Fail;
 
 /// Above each index, time and running number of these runs.
@@ -117,9 +118,7 @@ fn version(dice: &mut Dice) -> u32 {
     }
 }
 
-fn delete(alloc: Global, dice: &mut Dice) -> Result<Cmd, NoMemory>
-    ensures { IfOk result (λ c. IsTrue (is_built_cmd c)) }
-{
+fn delete(alloc: Global, dice: &mut Dice) -> Result<Cmd, NoMemory> {
     let version = version(dice);
     Ok(Cmd::Delete {
         path: path(alloc, dice)?,
@@ -127,9 +126,7 @@ fn delete(alloc: Global, dice: &mut Dice) -> Result<Cmd, NoMemory>
     })
 }
 
-fn set(alloc: Global, dice: &mut Dice) -> Result<Cmd, NoMemory>
-    ensures { IfOk result (λ c. IsTrue (is_built_cmd c)) }
-{
+fn set(alloc: Global, dice: &mut Dice) -> Result<Cmd, NoMemory> {
     let version = version(dice);
     let bytes = data(alloc, dice)?;
     Ok(Cmd::SetData {
@@ -139,9 +136,7 @@ fn set(alloc: Global, dice: &mut Dice) -> Result<Cmd, NoMemory>
     })
 }
 
-fn check(alloc: Global, dice: &mut Dice) -> Result<Cmd, NoMemory>
-    ensures { IfOk result (λ c. IsTrue (is_built_cmd c)) }
-{
+fn check(alloc: Global, dice: &mut Dice) -> Result<Cmd, NoMemory> {
     let version = version(dice);
     Ok(Cmd::Check {
         path: path(alloc, dice)?,
@@ -149,16 +144,18 @@ fn check(alloc: Global, dice: &mut Dice) -> Result<Cmd, NoMemory>
     })
 }
 
-fn create(alloc: Global, dice: &mut Dice) -> Result<Cmd, NoMemory>
-    ensures { IfOk result (λ c. IsTrue (is_built_cmd c)) }
-{
+fn create(alloc: Global, dice: &mut Dice) -> Result<Cmd, NoMemory> {
     let bytes = data(alloc, dice)?;
-    create_cmd(alloc, path(alloc, dice)?, bytes)
+    let operation = Operation::Create {
+        path: path(alloc, dice)?,
+        flags: 0,
+        bytes,
+        acl: None,
+    };
+    cmd_of(alloc, Command::Operation(operation))
 }
 
-fn command(alloc: Global, dice: &mut Dice) -> Result<Cmd, NoMemory>
-    ensures { IfOk result (λ c. IsTrue (is_built_cmd c)) }
-{
+fn command(alloc: Global, dice: &mut Dice) -> Result<Cmd, NoMemory> {
     match dice.roll(8) {
         0 => delete(alloc, dice),
         1 => set(alloc, dice),
@@ -171,7 +168,6 @@ fn command(alloc: Global, dice: &mut Dice) -> Result<Cmd, NoMemory>
 fn opening(n: u64) -> Body
     requires { n ≤ 100000 }
     ensures numbers { IsTrue (is_body result) }
-    ensures built { IsTrue (is_built result) }
 {
     Body::OpenSession {
         timeout: 30000,
@@ -199,7 +195,6 @@ fn numbers(dice: &mut Dice, store: &Storage) -> Option<(u64, u64)>
 fn body(alloc: Global, dice: &mut Dice, store: &Storage, n: u64) -> Result<Body, NoMemory>
     requires { n ≤ 100000 }
     ensures numbers { IfOk result (λ b. IsTrue (is_body b)) }
-    ensures built { IfOk result (λ b. IsTrue (is_built b)) }
 {
     match numbers(dice, store) {
         None => Ok(opening(n)),
@@ -213,9 +208,7 @@ fn body(alloc: Global, dice: &mut Dice, store: &Storage, n: u64) -> Result<Body,
 }
 
 /// Adds an entry to both.
-fn put(both: &mut Both, entry: &Entry) -> Result<(), NoMemory>
-    requires built { IsTrue (is_built entry.now.body) }
-{
+fn put(both: &mut Both, entry: &Entry) -> Result<(), NoMemory> {
     if both.layered.last() < MANY && both.plain.last() < MANY {
         both.layered.preprocess(entry)?;
         both.plain.preprocess(entry)?;
@@ -227,17 +220,16 @@ fn put(both: &mut Both, entry: &Entry) -> Result<(), NoMemory>
 fn enter(both: &mut Both, n: u64, body: Body) -> Result<(), NoMemory>
     requires number { n ≤ 100000 }
     requires numbers { IsTrue (is_body body) }
-    requires built { IsTrue (is_built body) }
 {
     let entry = Entry::new(0, n, body)?;
     put(both, &entry)
 }
 
 /// What the plain store kept for its last entry.
-fn plain_kept(alloc: Global, plain: &PlainStore) -> Result<String, NoMemory> {
+fn plain_kept(alloc: Global, plain: &PlainStore) -> Result<Vec<u8>, NoMemory> {
     let last = plain.last();
     let reply = plain.kept(last)?;
-    Ok(pre_text(alloc, last, reply.as_ref())?)
+    pre_text(alloc, last, reply.as_ref())
 }
 
 /// Whether both print the same of their last entry.
@@ -245,7 +237,7 @@ fn same_kept(alloc: Global, both: &Both) -> Result<bool, NoMemory> {
     let last = both.layered.last();
     let layered = pre_text(alloc, last, both.layered.kept(last))?;
     let plain = plain_kept(alloc, &both.plain)?;
-    Ok(layered.as_str() == plain.as_str())
+    Ok(layered.as_slice() == plain.as_slice())
 }
 
 fn add(alloc: Global, dice: &mut Dice, both: &mut Both, n: u64) -> Result<bool, NoMemory>
@@ -264,8 +256,8 @@ fn add_noop(alloc: Global, both: &mut Both, n: u64) -> Result<bool, NoMemory>
 }
 
 /// What is printed of a commit.
-fn done(alloc: Global, done: Option<Committed>) -> Result<String, NoMemory> {
-    Ok(done_text(alloc, done.as_ref())?)
+fn done(alloc: Global, done: Option<Committed>) -> Result<Vec<u8>, NoMemory> {
+    done_text(alloc, done.as_ref())
 }
 
 /// Whether both print the same of a commit, and the layered one the same beforehand.
@@ -273,7 +265,7 @@ fn commit(alloc: Global, both: &mut Both) -> Result<bool, NoMemory> {
     let upcoming = done_text(alloc, both.layered.upcoming())?;
     let layered = done(alloc, both.layered.commit())?;
     let plain = done(alloc, both.plain.commit()?)?;
-    Ok(layered.as_str() == plain.as_str() && upcoming.as_str() == plain.as_str())
+    Ok(layered.as_slice() == plain.as_slice() && upcoming.as_slice() == plain.as_slice())
 }
 
 /// Cuts both at one index. Whether they end there.
@@ -299,7 +291,7 @@ fn step(alloc: Global, dice: &mut Dice, both: &mut Both, n: u64) -> Result<bool,
     }
 }
 
-fn plain_seen(alloc: Global, word: &str, seen: Option<Seen>) -> Result<String, AllocError> {
+fn plain_seen(alloc: Global, word: &str, seen: Option<Seen>) -> Result<Vec<u8>, NoMemory> {
     match &seen {
         None => seen_text(alloc, word, None, None),
         Some(seen) => seen_text(alloc, word, Some(seen.bytes.as_slice()), Some(&seen.meta)),
@@ -309,13 +301,13 @@ fn plain_seen(alloc: Global, word: &str, seen: Option<Seen>) -> Result<String, A
 fn same_peek(alloc: Global, both: &Both, at: &Text) -> Result<bool, NoMemory> {
     let layered = peek(alloc, &both.layered, at)?;
     let plain = plain_seen(alloc, "peek", both.plain.peek(at.as_str())?)?;
-    Ok(layered.as_str() == plain.as_str())
+    Ok(layered.as_slice() == plain.as_slice())
 }
 
 fn same_see(alloc: Global, both: &Both, at: &Text) -> Result<bool, NoMemory> {
     let layered = see(alloc, &both.layered, at)?;
     let plain = plain_seen(alloc, "see", both.plain.see(at.as_str())?)?;
-    Ok(layered.as_str() == plain.as_str())
+    Ok(layered.as_slice() == plain.as_slice())
 }
 
 /// Whether the plain store has this node, in its committed or its uncommitted state.
@@ -363,24 +355,24 @@ fn plain_kids(
     plain: &PlainStore,
     at: &str,
     committed: bool,
-) -> Result<String, NoMemory> {
+) -> Result<Vec<u8>, NoMemory> {
     if !has(plain, at, committed)? {
-        return Ok(no_kids_text(alloc, word)?);
+        return no_kids_text(alloc, word);
     }
     let names = names_below(alloc, plain, at, committed)?;
-    Ok(kids_text(alloc, word, &names)?)
+    kids_text(alloc, word, &names)
 }
 
 fn same_kids(alloc: Global, both: &Both, at: &Text) -> Result<bool, NoMemory> {
     let layered = children(alloc, "kids", &both.layered.latest(), at)?;
     let plain = plain_kids(alloc, "kids", &both.plain, at.as_str(), false)?;
-    Ok(layered.as_str() == plain.as_str())
+    Ok(layered.as_slice() == plain.as_slice())
 }
 
 fn same_ls(alloc: Global, both: &Both, at: &Text) -> Result<bool, NoMemory> {
     let layered = children(alloc, "ls", &both.layered.committed(), at)?;
     let plain = plain_kids(alloc, "ls", &both.plain, at.as_str(), true)?;
-    Ok(layered.as_str() == plain.as_str())
+    Ok(layered.as_slice() == plain.as_slice())
 }
 
 /// Whether both print the same of a drawn place, in both states.

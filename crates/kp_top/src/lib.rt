@@ -2,19 +2,16 @@
 #![tactic(auto)]
 
 mod command;
-mod laws;
-mod line;
+mod input_lines;
+mod line_commands;
 mod print;
 mod status;
 mod store;
 mod stream;
 mod taken;
-mod words;
 mod work;
 
 pub use command::run_command;
-pub use laws::lines_are_read_as_spelled;
-pub use line::StoreLine;
 pub use status::Status;
 
 #[cfg(test)]

@@ -1,92 +1,19 @@
-ghost use Rattle.std.specs.Prelude.{◌≡◌, ◌++◌, [], Some, None, IfOk, OnOk, string_bytes, codes};
+ghost use Rattle.std.specs.Prelude.{◌≡◌, ◌++◌, Some, None, IfOk, OnOk, codes};
+ghost use Rattle.std.specs.Fmt.{decimal};
 ghost use Rattle.std.specs.Option.{option_copied};
-ghost use Rattle.kp_top.specs.Texts.{data_text as data_bytes, stat_text as stat_bytes, indexes_text as indexes_bytes, times_text as times_bytes, versions_text as versions_bytes, sizes_text as sizes_bytes, reply_text as reply_bytes, seen_text as seen_bytes, names_text as names_bytes, kids_text as kids_bytes, pre_text as pre_bytes, done_text as done_bytes, time_text as time_bytes, cut_text as cut_bytes, shown};
+ghost use Rattle.kp_top.specs.Texts.{seen_text as seen_bytes, kids_text as kids_bytes, acl_text as acl_bytes, who_text as who_bytes, pre_text as pre_bytes, done_text as done_bytes, time_text as time_bytes, cut_text as cut_bytes, shown};
 
-use kp_model::{Committed, Meta, Paths, Reply, Text};
-use std::alloc::{AllocError, Global};
+use kp_model::{Acl, Committed, Meta, NoMemory, Paths, Reply, Session};
+use kp_text::{
+    print_acls, print_data, print_names, print_reply, print_session, print_stat, print_text,
+};
+use std::alloc::Global;
 
-/// The room in bytes that most lines fit.
-const ROOM: usize = 128;
-
-/// An empty text with room for a line.
-fn blank(alloc: Global) -> Result<String, AllocError>
-    ensures { IfOk result (λ s. string_bytes s ≡ []) }
+/// The bytes of a text.
+pub fn text_of(alloc: Global, text: &str) -> Result<Vec<u8>, NoMemory>
+    ensures { IfOk result (λ v. v.items ≡ text.now) }
 {
-    String::with_capacity(alloc, ROOM)
-}
-
-fn push_indexes(out: &mut String, cz: u64, mz: u64, pz: u64) -> Result<(), AllocError>
-    ensures { OnOk result (string_bytes out.new ≡ string_bytes out.old ++ indexes_bytes cz mz pz) }
-{
-    write!(out, "cz={cz} mz={mz} pz={pz}")
-}
-
-fn push_times(out: &mut String, ct: u64, mt: u64) -> Result<(), AllocError>
-    ensures { OnOk result (string_bytes out.new ≡ string_bytes out.old ++ times_bytes ct mt) }
-{
-    write!(out, " ct={ct} mt={mt}")
-}
-
-fn push_versions(out: &mut String, v: u32, cv: u32, av: u32) -> Result<(), AllocError>
-    ensures { OnOk result (string_bytes out.new ≡ string_bytes out.old ++ versions_bytes v cv av) }
-{
-    write!(out, " v={v} cv={cv} av={av}")
-}
-
-fn push_sizes(out: &mut String, own: u64, len: u32, kids: u32) -> Result<(), AllocError>
-    ensures { OnOk result (string_bytes out.new ≡ string_bytes out.old ++ sizes_bytes own len kids) }
-{
-    write!(out, " own={own} len={len} kids={kids}")
-}
-
-/// Appends the numbers of a node.
-#[tactic(auto, unfolding(crate::specs::Texts::stat_text))]
-fn push_stat(out: &mut String, m: &Meta) -> Result<(), AllocError>
-    ensures { OnOk result (string_bytes out.new ≡ string_bytes out.old ++ stat_bytes m.now) }
-{
-    push_indexes(out, m.czxid, m.mzxid, m.pzxid)?;
-    push_times(out, m.ctime, m.mtime)?;
-    push_versions(out, m.version, m.cversion, m.aversion)?;
-    push_sizes(out, m.owner, m.len, m.kids)
-}
-
-/// Appends bytes in lower-case hexadecimal, `-` for none.
-#[tactic(auto, unfolding(crate::specs::Texts::data_text))]
-fn push_data(alloc: Global, out: &mut String, bytes: &[u8]) -> Result<(), AllocError>
-    ensures { OnOk result (string_bytes out.new ≡ string_bytes out.old ++ data_bytes bytes.now) }
-{
-    if bytes.is_empty() {
-        return out.push_str("-");
-    }
-    let text = hex::encode(alloc, bytes)?;
-    out.push_str(text.as_str())
-}
-
-fn push_path(out: &mut String, path: &Text) -> Result<(), AllocError>
-    ensures { OnOk result (string_bytes out.new ≡ string_bytes out.old ++ (codes "ok path=" ++ path.now)) }
-{
-    let path = path.as_str();
-    write!(out, "ok path={path}")
-}
-
-/// Appends a reply.
-#[tactic(auto, unfolding(crate::specs::Texts::reply_text))]
-fn push_reply(out: &mut String, reply: &Reply) -> Result<(), AllocError>
-    ensures { OnOk result (string_bytes out.new ≡ string_bytes out.old ++ reply_bytes reply.now) }
-{
-    match reply {
-        Reply::Stale => out.push_str("stale"),
-        Reply::Err(code) => write!(out, "err={code}"),
-        Reply::Session(n) => write!(out, "ok session={n}"),
-        Reply::Epoch(n) => write!(out, "ok epoch={n}"),
-        Reply::Path(path) => push_path(out, path),
-        Reply::Stat(m) => {
-            out.push_str("ok ")?;
-            push_stat(out, m)
-        }
-        Reply::PathStat(path, _) => push_path(out, path),
-        Reply::Done | Reply::Multi(_) | Reply::Failed(_) => out.push_str("ok"),
-    }
+    Ok(Vec::from_slice(alloc, text.as_bytes())?)
 }
 
 /// What is seen of a node, its data and its numbers, behind the word that asked for it.
@@ -96,102 +23,134 @@ pub fn seen_text(
     word: &str,
     bytes: Option<&[u8]>,
     meta: Option<&Meta>,
-) -> Result<String, AllocError>
-    ensures { IfOk result (λ s. string_bytes s ≡ seen_bytes word.now (shown (option_copied bytes.entry) (option_copied meta.entry))) }
+) -> Result<Vec<u8>, NoMemory>
+    ensures { IfOk result (λ v. v.items ≡ seen_bytes word.now (shown (option_copied bytes.entry) (option_copied meta.entry))) }
 {
-    let mut out = blank(alloc)?;
-    out.push_str(word)?;
+    let mut out = text_of(alloc, word)?;
     let (Some(bytes), Some(meta)) = (bytes, meta) else {
-        out.push_str(" none")?;
+        print_text(" none", &mut out)?;
         return Ok(out);
     };
-    out.push_str(" ")?;
-    push_data(alloc, &mut out, bytes)?;
-    out.push_str(" ")?;
-    push_stat(&mut out, meta)?;
+    print_text(" ", &mut out)?;
+    print_data(bytes, &mut out)?;
+    print_text(" ", &mut out)?;
+    print_stat(meta, &mut out)?;
     Ok(out)
 }
 
 /// That there is no such node, behind the word that asked for its children.
 #[tactic(auto, unfolding(crate::specs::Texts::kids_text))]
-pub fn no_kids_text(alloc: Global, word: &str) -> Result<String, AllocError>
-    ensures { IfOk result (λ s. string_bytes s ≡ kids_bytes word.now None) }
+pub fn no_kids_text(alloc: Global, word: &str) -> Result<Vec<u8>, NoMemory>
+    ensures { IfOk result (λ v. v.items ≡ kids_bytes word.now None) }
 {
-    format!(in alloc; "{word} none")
+    let mut out = text_of(alloc, word)?;
+    print_text(" none", &mut out)?;
+    Ok(out)
 }
 
-fn push_name(out: &mut String, name: &Text) -> Result<(), AllocError>
-    ensures { OnOk result (string_bytes out.new ≡ string_bytes out.old ++ (codes " " ++ name.now)) }
+fn counted(alloc: Global, word: &str, count: usize) -> Result<Vec<u8>, NoMemory>
+    ensures { IfOk result (λ v. v.items ≡ word.now ++ (codes " " ++ decimal count)) }
 {
-    out.push_str(" ")?;
-    out.push_str(name.as_str())
-}
-
-/// Appends names, each behind a space.
-fn push_names(out: &mut String, names: &[Text]) -> Result<(), AllocError>
-    ensures { OnOk result (string_bytes out.new ≡ string_bytes out.old ++ names_bytes names.now) }
-{
-    for name in names {
-        push_name(out, name)?;
-    }
-    Ok(())
+    let text = format!(in alloc; "{word} {count}")?;
+    Ok(text.into_bytes())
 }
 
 /// The names of a node's children behind their number and the word that asked for them.
 #[tactic(auto, unfolding(crate::specs::Texts::kids_text))]
-pub fn kids_text(alloc: Global, word: &str, names: &Paths) -> Result<String, AllocError>
-    ensures { IfOk result (λ s. string_bytes s ≡ kids_bytes word.now (Some names.now)) }
+pub fn kids_text(alloc: Global, word: &str, names: &Paths) -> Result<Vec<u8>, NoMemory>
+    ensures { IfOk result (λ v. v.items ≡ kids_bytes word.now (Some names.now)) }
 {
-    let mut out = blank(alloc)?;
-    let count = names.len();
-    write!(out, "{word} {count}")?;
-    push_names(&mut out, names.as_slice())?;
+    let mut out = counted(alloc, word, names.len())?;
+    print_names(names.as_slice(), &mut out)?;
     Ok(out)
+}
+
+/// The access list of a node, or that there is no such node.
+#[tactic(auto, unfolding(crate::specs::Texts::acl_text))]
+pub fn acl_text(alloc: Global, acl: Option<&[Acl]>) -> Result<Vec<u8>, NoMemory>
+    ensures { IfOk result (λ v. v.items ≡ acl_bytes (option_copied acl.entry)) }
+{
+    match acl {
+        None => text_of(alloc, "acl none"),
+        Some(acl) => {
+            let mut out = counted(alloc, "acl", acl.len())?;
+            print_acls(acl, &mut out)?;
+            Ok(out)
+        }
+    }
+}
+
+/// The numbers of a session, or that there is no such session.
+#[tactic(auto, unfolding(crate::specs::Texts::who_text))]
+pub fn who_text(alloc: Global, session: Option<&Session>) -> Result<Vec<u8>, NoMemory>
+    ensures { IfOk result (λ v. v.items ≡ who_bytes (option_copied session.entry)) }
+{
+    match session {
+        None => text_of(alloc, "who none"),
+        Some(session) => {
+            let mut out = text_of(alloc, "who ")?;
+            print_session(session, &mut out)?;
+            Ok(out)
+        }
+    }
+}
+
+fn pre_of(alloc: Global, index: u64) -> Result<Vec<u8>, NoMemory>
+    ensures { IfOk result (λ v. v.items ≡ codes "pre " ++ (decimal index ++ codes " ")) }
+{
+    let text = format!(in alloc; "pre {index} ")?;
+    Ok(text.into_bytes())
 }
 
 /// An entry's index and its kept reply.
 #[tactic(auto, unfolding(crate::specs::Texts::pre_text))]
-pub fn pre_text(alloc: Global, index: u64, reply: Option<&Reply>) -> Result<String, AllocError>
-    ensures { IfOk result (λ s. string_bytes s ≡ pre_bytes index (option_copied reply.entry)) }
+pub fn pre_text(alloc: Global, index: u64, reply: Option<&Reply>) -> Result<Vec<u8>, NoMemory>
+    ensures { IfOk result (λ v. v.items ≡ pre_bytes index (option_copied reply.entry)) }
 {
-    let mut out = blank(alloc)?;
-    write!(out, "pre {index} ")?;
+    let mut out = pre_of(alloc, index)?;
     match reply {
-        None => out.push_str("stale")?,
-        Some(reply) => push_reply(&mut out, reply)?,
+        None => print_text("stale", &mut out)?,
+        Some(reply) => print_reply(reply, &mut out)?,
     }
     Ok(out)
+}
+
+fn done_of(alloc: Global, index: u64) -> Result<Vec<u8>, NoMemory>
+    ensures { IfOk result (λ v. v.items ≡ codes "done " ++ (decimal index ++ codes " ")) }
+{
+    let text = format!(in alloc; "done {index} ")?;
+    Ok(text.into_bytes())
 }
 
 /// What a commit answered.
 #[tactic(auto, unfolding(crate::specs::Texts::done_text))]
-pub fn done_text(alloc: Global, done: Option<&Committed>) -> Result<String, AllocError>
-    ensures { IfOk result (λ s. string_bytes s ≡ done_bytes (option_copied done.entry)) }
+pub fn done_text(alloc: Global, done: Option<&Committed>) -> Result<Vec<u8>, NoMemory>
+    ensures { IfOk result (λ v. v.items ≡ done_bytes (option_copied done.entry)) }
 {
-    let mut out = blank(alloc)?;
     match done {
-        None => out.push_str("done none")?,
+        None => text_of(alloc, "done none"),
         Some(done) => {
-            let index = done.index;
-            write!(out, "done {index} ")?;
-            push_reply(&mut out, &done.reply)?;
+            let mut out = done_of(alloc, done.index)?;
+            print_reply(&done.reply, &mut out)?;
+            Ok(out)
         }
     }
-    Ok(out)
 }
 
 /// The text of a `time` line.
 #[tactic(auto, unfolding(crate::specs::Texts::time_text))]
-pub fn time_text(alloc: Global, time: u64) -> Result<String, AllocError>
-    ensures { IfOk result (λ s. string_bytes s ≡ time_bytes time) }
+pub fn time_text(alloc: Global, time: u64) -> Result<Vec<u8>, NoMemory>
+    ensures { IfOk result (λ v. v.items ≡ time_bytes time) }
 {
-    format!(in alloc; "time {time}")
+    let text = format!(in alloc; "time {time}")?;
+    Ok(text.into_bytes())
 }
 
 /// The text of a truncation that was done.
 #[tactic(auto, unfolding(crate::specs::Texts::cut_text))]
-pub fn cut_text(alloc: Global, last: u64) -> Result<String, AllocError>
-    ensures { IfOk result (λ s. string_bytes s ≡ cut_bytes last) }
+pub fn cut_text(alloc: Global, last: u64) -> Result<Vec<u8>, NoMemory>
+    ensures { IfOk result (λ v. v.items ≡ cut_bytes last) }
 {
-    format!(in alloc; "cut {last}")
+    let text = format!(in alloc; "cut {last}")?;
+    Ok(text.into_bytes())
 }

@@ -5,13 +5,13 @@ ghost use Rattle.kp_top.specs.Output.{WroteAll, WrotePart};
 ghost use Rattle.kp_top.specs.Transcript.{blank, transcript, bad_line};
 ghost use Rattle.kp_top.specs.Run.{TakenAs, IsOfLines};
 
-use crate::line::read_line;
+use crate::input_lines::next_line;
 use crate::status::Status;
 use crate::stream::write_all;
 use crate::taken::Taken;
-use crate::words::next_line;
 use crate::work::Work;
 use kp_io::Sink;
+use kp_text::{LineFail, read_store_line};
 use std::alloc::Global;
 
 /// Takes the n-th line and writes what it prints.
@@ -22,19 +22,19 @@ fn take_line<W: Sink>(alloc: Global, work: &mut Work, n: u64, text: &[u8], outpu
     ensures fault { result ≡ Taken.WriteFault → W.faults output.new ≡ one_more (W.faults output.old) }
     ensures quiet { (result ≡ Taken.WriteFault → ⊥) → W.faults output.new ≡ W.faults output.old }
 {
-    let line = match read_line(alloc, text) {
-        Ok(Some(line)) => line,
-        Ok(None) => return Taken::Bad,
-        Err(_) => return Taken::NoMemory,
+    let line = match read_store_line(alloc, text) {
+        Ok(line) => line,
+        Err(LineFail::BadLine) => return Taken::Bad,
+        Err(LineFail::NoMemory) => return Taken::NoMemory,
     };
     let mut out = match work.turn(n, line) {
         Ok(out) => out,
         Err(_) => return Taken::NoMemory,
     };
-    if out.push_str("\n").is_err() {
+    if out.push(b'\n').is_err() {
         return Taken::NoMemory;
     }
-    match write_all(output, out.as_bytes()) {
+    match write_all(output, out.as_slice()) {
         Ok(()) => Taken::Printed,
         Err(_) => Taken::WriteFault,
     }

@@ -1,20 +1,23 @@
-ghost use Rattle.std.specs.Prelude.{◌≡◌, ◌<◌, ◌≤◌, false, IfOk, IsTrue, string_bytes, codes};
+ghost use Rattle.std.specs.Prelude.{◌≡◌, ◌<◌, ◌≤◌, ◌&&◌, IfOk, IsTrue, codes};
 ghost use Rattle.std.specs.FinMap as map;
 ghost use Rattle.kp_model.specs.Grammar.{is_body, has_numbers, is_number};
-ghost use Rattle.kp_model.specs.State.{open_acl, seen};
+ghost use Rattle.kp_model.specs.State.{seen, acl_at};
 ghost use Rattle.kp_model.specs.Store.{last as last_of, latest};
-ghost use Rattle.kp_model.specs.declared.command.Cmd.TheVariants as cmd;
 ghost use Rattle.kp_model.specs.declared.entry.Body.TheVariants as body;
-ghost use Rattle.kp_model.specs.Built.{is_built, is_built_cmd};
-ghost use Rattle.kp_top.specs.Spelling.{has_line_numbers};
-ghost use Rattle.kp_top.specs.Texts.{seen_text as seen_bytes, kids_text as kids_bytes};
-ghost use Rattle.kp_top.specs.Transcript.{blank, turn as turn_of, entered, committed, cut as cut_of, write_of, epoch_of, next_seq_of, kids_at};
+ghost use Rattle.kp_text.specs.Spelling.{is_line};
+ghost use Rattle.kp_top.specs.Texts.{seen_text as seen_bytes, kids_text as kids_bytes, acl_text as acl_bytes, who_text as who_bytes};
+ghost use Rattle.kp_top.specs.Transcript.{blank, turn as turn_of, entered, committed, cut as cut_of, write_of, epoch_of, next_seq_of, origin_of as origin_at, kids_at};
+ghost use Rattle.kp_top.specs.LineCommands.{cmd_of as asks};
 ghost use Rattle.kp_top.specs.Paced.{IsPaced};
 
-use crate::line::StoreLine;
-use crate::print::{cut_text, done_text, kids_text, no_kids_text, pre_text, seen_text, time_text};
-use kp_model::{Acl, Acls, Body, Bytes, Cmd, Entry, NoMemory, Origin, Text, View};
+use crate::line_commands::cmd_of;
+use crate::print::{
+    acl_text, cut_text, done_text, kids_text, no_kids_text, pre_text, seen_text, text_of,
+    time_text, who_text,
+};
+use kp_model::{Body, Cmd, Entry, NoMemory, Origin, Text, View};
 use kp_storage::Storage;
+use kp_text::{Command, StoreLine};
 use std::alloc::Global;
 use std::marker::Model;
 
@@ -42,33 +45,6 @@ impl Model for Work {
     ghost invariant = { λ w. IsTrue (is_number w.time) × IsPaced w.store.state };
 }
 
-/// The access list that gives every right to everyone.
-fn everyone(alloc: Global) -> Result<Acls, NoMemory>
-    ensures { IfOk result (λ acl. acl ≡ open_acl) }
-{
-    let mut acl = Acls::new(alloc);
-    acl.push(Acl {
-        perms: 31,
-        scheme: Text::from_str(alloc, "world")?,
-        id: Text::from_str(alloc, "anyone")?,
-    })?;
-    Ok(acl)
-}
-
-/// The command that a create line makes.
-pub fn create_cmd(alloc: Global, path: Text, bytes: Bytes) -> Result<Cmd, NoMemory>
-    ensures cmd { IfOk result (λ c. c ≡ cmd.Create path bytes open_acl 0 false) }
-    ensures built { IfOk result (λ c. IsTrue (is_built_cmd c)) }
-{
-    Ok(Cmd::Create {
-        path,
-        bytes,
-        acl: everyone(alloc)?,
-        flags: 0,
-        stat: false,
-    })
-}
-
 /// The epoch of a session and its next number in the uncommitted state, or 0 and 0 where there is no such session.
 #[tactic(auto, using(crate::proofs::Paces::paced_latest))]
 fn numbers_of(store: &Storage, session: u64) -> (u64, u64)
@@ -90,10 +66,8 @@ fn write_body(store: &Storage, session: u64, cmd: Cmd) -> Body
     requires room { last_of store.now < 4611686018427387904 }
     requires paced { IsPaced store.now.state }
     requires session { IsTrue (is_number session) }
-    requires built { IsTrue (is_built_cmd cmd) }
     ensures body { result ≡ write_of store.now session cmd }
     ensures numbers { IsTrue (is_body result) }
-    ensures built { IsTrue (is_built result) }
 {
     let (epoch, seq) = numbers_of(store, session);
     Body::Write {
@@ -106,81 +80,106 @@ fn write_body(store: &Storage, session: u64, cmd: Cmd) -> Body
 
 /// Adds an entry and answers its text.
 #[tactic(auto, unfolding(crate::specs::Transcript::entered))]
-fn enter(alloc: Global, store: &mut Storage, time: u64, body: Body) -> Result<String, NoMemory>
+fn enter(alloc: Global, store: &mut Storage, time: u64, body: Body) -> Result<Vec<u8>, NoMemory>
     requires room { last_of store.old < 4611686018427387904 }
     requires numbers { IsTrue (has_numbers 0 time body) }
-    requires built { IsTrue (is_built body) }
-    ensures turn { IfOk result (λ s. record { text = string_bytes s; work = record { store = store.new; time = time } } ≡ entered (record { store = store.old; time = time }) body) }
+    ensures turn { IfOk result (λ v. record { text = v.items; work = record { store = store.new; time = time } } ≡ entered (record { store = store.old; time = time }) body) }
     ensures state { store.new.state ≡ store.old.state }
 {
     let entry = Entry::new(0, time, body)?;
     store.preprocess(&entry)?;
     let last = store.last();
-    Ok(pre_text(alloc, last, store.kept(last))?)
+    pre_text(alloc, last, store.kept(last))
 }
 
-/// Adds a write of a session and answers its text.
+/// Adds a command of a session, with its epoch and its next number, and answers its text.
 fn write(
     alloc: Global,
     store: &mut Storage,
     time: u64,
     session: u64,
-    cmd: Cmd,
-) -> Result<String, NoMemory>
+    command: Command,
+) -> Result<Vec<u8>, NoMemory>
     requires room { last_of store.old < 4611686018427387904 }
     requires paced { IsPaced store.old.state }
     requires time { IsTrue (is_number time) }
     requires session { IsTrue (is_number session) }
-    requires built { IsTrue (is_built_cmd cmd) }
-    ensures turn { IfOk result (λ s. record { text = string_bytes s; work = record { store = store.new; time = time } } ≡ entered (record { store = store.old; time = time }) (write_of store.old session cmd)) }
+    ensures turn { IfOk result (λ v. record { text = v.items; work = record { store = store.new; time = time } } ≡ entered (record { store = store.old; time = time }) (write_of store.old session (asks command))) }
     ensures state { store.new.state ≡ store.old.state }
 {
+    let cmd = cmd_of(alloc, command)?;
     let body = write_body(store, session, cmd);
+    enter(alloc, store, time, body)
+}
+
+/// Adds a command of a session with this epoch and number, and answers its text.
+fn write_raw(
+    alloc: Global,
+    store: &mut Storage,
+    time: u64,
+    session: u64,
+    epoch: u64,
+    seq: u64,
+    command: Command,
+) -> Result<Vec<u8>, NoMemory>
+    requires room { last_of store.old < 4611686018427387904 }
+    requires time { IsTrue (is_number time) }
+    requires numbers { IsTrue (is_number session && (is_number epoch && is_number seq)) }
+    ensures turn { IfOk result (λ v. record { text = v.items; work = record { store = store.new; time = time } } ≡ entered (record { store = store.old; time = time }) (body.Write session epoch seq (asks command))) }
+    ensures state { store.new.state ≡ store.old.state }
+{
+    let cmd = cmd_of(alloc, command)?;
+    let body = Body::Write {
+        session,
+        epoch,
+        seq,
+        cmd,
+    };
     enter(alloc, store, time, body)
 }
 
 /// Applies the first unapplied entry and answers the text.
 #[tactic(auto, unfolding(crate::specs::Transcript::committed), using(crate::proofs::Paces::paced_commit))]
-fn commit(alloc: Global, store: &mut Storage, time: u64) -> Result<String, NoMemory>
+fn commit(alloc: Global, store: &mut Storage, time: u64) -> Result<Vec<u8>, NoMemory>
     requires paced { IsPaced store.old.state }
-    ensures turn { IfOk result (λ s. record { text = string_bytes s; work = record { store = store.new; time = time } } ≡ committed (record { store = store.old; time = time })) }
+    ensures turn { IfOk result (λ v. record { text = v.items; work = record { store = store.new; time = time } } ≡ committed (record { store = store.old; time = time })) }
     ensures paced { IsPaced store.new.state }
 {
     let done = store.commit();
-    Ok(done_text(alloc, done.as_ref())?)
+    done_text(alloc, done.as_ref())
 }
 
 /// Truncates and answers the text.
 #[tactic(auto, unfolding(crate::specs::Transcript::cut))]
-fn truncate(alloc: Global, store: &mut Storage, time: u64, last: u64) -> Result<String, NoMemory>
-    ensures turn { IfOk result (λ s. record { text = string_bytes s; work = record { store = store.new; time = time } } ≡ cut_of (record { store = store.old; time = time }) last) }
+fn truncate(alloc: Global, store: &mut Storage, time: u64, last: u64) -> Result<Vec<u8>, NoMemory>
+    ensures turn { IfOk result (λ v. record { text = v.items; work = record { store = store.new; time = time } } ≡ cut_of (record { store = store.old; time = time }) last) }
     ensures state { store.new.state ≡ store.old.state }
 {
     if store.applied() <= last && last <= store.last() {
         store.truncate(last);
-        return Ok(cut_text(alloc, last)?);
+        return cut_text(alloc, last);
     }
-    Ok(String::from_str(alloc, "cut refused")?)
+    text_of(alloc, "cut refused")
 }
 
 /// What is seen of a node of the uncommitted state.
 #[tactic(auto, using(crate::proofs::Looks::shown_seen))]
-pub fn peek(alloc: Global, store: &Storage, path: &Text) -> Result<String, NoMemory>
-    ensures { IfOk result (λ s. string_bytes s ≡ seen_bytes (codes "peek") (seen (latest store.now).nodes path.now)) }
+pub fn peek(alloc: Global, store: &Storage, path: &Text) -> Result<Vec<u8>, NoMemory>
+    ensures { IfOk result (λ v. v.items ≡ seen_bytes (codes "peek") (seen (latest store.now).nodes path.now)) }
 {
     let path = path.as_str();
     let (data, meta) = (store.latest_data(path), store.latest_meta(path));
-    Ok(seen_text(alloc, "peek", data, meta)?)
+    seen_text(alloc, "peek", data, meta)
 }
 
 /// What is seen of a node of the committed state.
 #[tactic(auto, using(crate::proofs::Looks::shown_seen))]
-pub fn see(alloc: Global, store: &Storage, path: &Text) -> Result<String, NoMemory>
-    ensures { IfOk result (λ s. string_bytes s ≡ seen_bytes (codes "see") (seen store.now.state.nodes path.now)) }
+pub fn see(alloc: Global, store: &Storage, path: &Text) -> Result<Vec<u8>, NoMemory>
+    ensures { IfOk result (λ v. v.items ≡ seen_bytes (codes "see") (seen store.now.state.nodes path.now)) }
 {
     let path = path.as_str();
     let (data, meta) = (store.committed_data(path), store.committed_meta(path));
-    Ok(seen_text(alloc, "see", data, meta)?)
+    seen_text(alloc, "see", data, meta)
 }
 
 /// The names of the children of a node of this state, behind the word that asked for them.
@@ -190,29 +189,39 @@ pub fn children<V: View>(
     word: &str,
     view: &V,
     path: &Text,
-) -> Result<String, NoMemory>
-    ensures { IfOk result (λ s. string_bytes s ≡ kids_bytes word.now (kids_at (V.state view.now).nodes path.now)) }
+) -> Result<Vec<u8>, NoMemory>
+    ensures { IfOk result (λ v. v.items ≡ kids_bytes word.now (kids_at (V.state view.now).nodes path.now)) }
 {
     let path = path.as_str();
     if view.meta(path).is_none() {
-        return Ok(no_kids_text(alloc, word)?);
+        return no_kids_text(alloc, word);
     }
     let names = view.kids(alloc, path)?;
-    Ok(kids_text(alloc, word, &names)?)
+    kids_text(alloc, word, &names)
 }
 
-/// The opening of a session by the n-th line.
-fn opening(n: u64, timeout: u32, passwd: [u8; 16]) -> Body
-    ensures { result ≡ body.OpenSession timeout passwd (record { node = 0; boot = 0; conn = n }) }
+/// The access list of a node of the uncommitted state.
+fn acl(alloc: Global, store: &Storage, path: &Text) -> Result<Vec<u8>, NoMemory>
+    ensures { IfOk result (λ v. v.items ≡ acl_bytes (acl_at (latest store.now).nodes path.now)) }
 {
-    Body::OpenSession {
-        timeout,
-        passwd,
-        origin: Origin {
-            node: 0,
-            boot: 0,
-            conn: n,
-        },
+    acl_text(alloc, store.latest().acl(path.as_str()))
+}
+
+/// A session of the uncommitted state.
+fn who(alloc: Global, store: &Storage, session: u64) -> Result<Vec<u8>, NoMemory>
+    ensures { IfOk result (λ v. v.items ≡ who_bytes (map.get (latest store.now).sessions session)) }
+{
+    who_text(alloc, store.latest_session(session))
+}
+
+/// The origin of a session that the n-th line opens or takes over.
+fn origin_of(n: u64) -> Origin
+    ensures { result ≡ origin_at n }
+{
+    Origin {
+        node: 0,
+        boot: 0,
+        conn: n,
     }
 }
 
@@ -230,60 +239,52 @@ impl Work {
 
     /// Does the n-th line and answers its text, without a line feed. After an `Err` no further line is taken.
     #[tactic(auto, unfolding(crate::specs::Transcript::turn))]
-    pub fn turn(&mut self, n: u64, line: StoreLine) -> Result<String, NoMemory>
+    pub fn turn(&mut self, n: u64, line: StoreLine) -> Result<Vec<u8>, NoMemory>
         requires room { last_of self.old.store < 4611686018427387904 }
         requires number { n ≤ 4611686018427387904 }
-        requires line { IsTrue (has_line_numbers line) }
-        ensures { IfOk result (λ s. record { text = string_bytes s; work = self.new } ≡ turn_of self.old n line) }
+        requires line { IsTrue (is_line line) }
+        ensures { IfOk result (λ v. record { text = v.items; work = self.new } ≡ turn_of self.old n line) }
     {
         let (alloc, time) = (self.alloc, self.time);
         let store = &mut self.store;
         match line {
             StoreLine::Time { time } => {
                 self.time = time;
-                Ok(time_text(alloc, time)?)
+                time_text(alloc, time)
             }
             StoreLine::Open { timeout, passwd } => {
-                enter(alloc, store, time, opening(n, timeout, passwd))
-            }
-            StoreLine::Noop => enter(alloc, store, time, Body::Noop),
-            StoreLine::Create {
-                session,
-                path,
-                bytes,
-            } => {
-                let cmd = create_cmd(alloc, path, bytes)?;
-                write(alloc, store, time, session, cmd)
-            }
-            StoreLine::Delete {
-                session,
-                path,
-                version,
-            } => write(alloc, store, time, session, Cmd::Delete { path, version }),
-            StoreLine::Set {
-                session,
-                path,
-                bytes,
-                version,
-            } => {
-                let cmd = Cmd::SetData {
-                    path,
-                    bytes,
-                    version,
+                let body = Body::OpenSession {
+                    timeout,
+                    passwd,
+                    origin: origin_of(n),
                 };
-                write(alloc, store, time, session, cmd)
+                enter(alloc, store, time, body)
             }
-            StoreLine::Check {
+            StoreLine::Attach { session, passwd } => {
+                let body = Body::Attach {
+                    session,
+                    passwd,
+                    origin: origin_of(n),
+                };
+                enter(alloc, store, time, body)
+            }
+            StoreLine::Expire { session } => enter(alloc, store, time, Body::Expire { session }),
+            StoreLine::Noop => enter(alloc, store, time, Body::Noop),
+            StoreLine::Write { session, command } => write(alloc, store, time, session, command),
+            StoreLine::Raw {
                 session,
-                path,
-                version,
-            } => write(alloc, store, time, session, Cmd::Check { path, version }),
+                epoch,
+                seq,
+                command,
+            } => write_raw(alloc, store, time, session, epoch, seq, command),
             StoreLine::Commit => commit(alloc, store, time),
             StoreLine::Truncate { last } => truncate(alloc, store, time, last),
             StoreLine::Peek { path } => peek(alloc, store, &path),
             StoreLine::See { path } => see(alloc, store, &path),
             StoreLine::Kids { path } => children(alloc, "kids", &store.latest(), &path),
             StoreLine::Ls { path } => children(alloc, "ls", &store.committed(), &path),
+            StoreLine::Acl { path } => acl(alloc, store, &path),
+            StoreLine::Who { session } => who(alloc, store, session),
         }
     }
 }

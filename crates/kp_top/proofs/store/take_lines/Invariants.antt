@@ -1,6 +1,6 @@
 use Rattle.std.proofs.Common.{◌≡◌, ◌<◌, ◌≤◌, ◌+◌, length}
 use Rattle.kp_model.specs.Store.{last}
-use Rattle.kp_top.specs.Words.{lines_of}
+use Rattle.kp_top.specs.InputLines.{lines_of}
 use Rattle.kp_top.specs.Transcript.{printed, first_bad, transcript, bad_line}
 use Rattle.kp_top.specs.Output.{Wrote}
 use Rattle.kp_top.proofs.store.take_lines.Given as goal

@@ -1,0 +1,14 @@
+mod Numerals
+mod LineWords
+mod Spelled
+mod Parted
+mod Visible
+mod Hexadecimal
+mod Versions
+mod NameTexts
+mod Choices
+mod AclTexts
+mod AclSteps
+mod CommandTexts
+mod LineTexts
+mod AclPrints

@@ -1,0 +1,6 @@
+pub mod Words
+pub mod AclWords
+pub mod Commands
+pub mod Lines
+pub mod Spelling
+pub mod Texts

@@ -1,0 +1,19 @@
+//! The languages and the texts: lines are read from bytes, and replies and looks are printed.
+#![tactic(auto)]
+
+mod acl;
+mod command;
+mod fail;
+mod line;
+mod print;
+mod words;
+
+pub use command::{Command, Operation};
+pub use fail::LineFail;
+pub use line::{StoreLine, read_store_line};
+pub use print::{
+    print_acls, print_data, print_names, print_reply, print_session, print_stat, print_text,
+};
+
+#[cfg(test)]
+mod tests;

@@ -1,0 +1,183 @@
+ghost use Rattle.std.specs.Prelude.{◌≡◌, ◌++◌, OnOk, codes};
+ghost use Rattle.std.specs.Fmt.{decimal, signed_decimal};
+ghost use Rattle.kp_text.specs.Texts.{data_text, stat_text, indexes_text, times_text, versions_text, sizes_text, reply_text, names_text, acls_text, session_text};
+ghost use Rattle.kp_text.specs.Spelling.{spelled_acl};
+
+use kp_model::{Acl, Meta, NoMemory, Reply, Session, Text};
+
+/// Appends a text as it is.
+pub fn print_text(text: &str, out: &mut Vec<u8>) -> Result<(), NoMemory>
+    ensures { OnOk result (out.new.items ≡ out.old.items ++ text.now) }
+{
+    out.extend_from_slice(text.as_bytes())?;
+    Ok(())
+}
+
+fn print_indexes(cz: u64, mz: u64, pz: u64, out: &mut Vec<u8>) -> Result<(), NoMemory>
+    ensures { OnOk result (out.new.items ≡ out.old.items ++ indexes_text cz mz pz) }
+{
+    let text = format!(in *out.allocator(); "cz={cz} mz={mz} pz={pz}")?;
+    print_text(text.as_str(), out)
+}
+
+fn print_times(ct: u64, mt: u64, out: &mut Vec<u8>) -> Result<(), NoMemory>
+    ensures { OnOk result (out.new.items ≡ out.old.items ++ times_text ct mt) }
+{
+    let text = format!(in *out.allocator(); " ct={ct} mt={mt}")?;
+    print_text(text.as_str(), out)
+}
+
+fn print_versions(v: u32, cv: u32, av: u32, out: &mut Vec<u8>) -> Result<(), NoMemory>
+    ensures { OnOk result (out.new.items ≡ out.old.items ++ versions_text v cv av) }
+{
+    let text = format!(in *out.allocator(); " v={v} cv={cv} av={av}")?;
+    print_text(text.as_str(), out)
+}
+
+fn print_sizes(own: u64, len: u32, kids: u32, out: &mut Vec<u8>) -> Result<(), NoMemory>
+    ensures { OnOk result (out.new.items ≡ out.old.items ++ sizes_text own len kids) }
+{
+    let text = format!(in *out.allocator(); " own={own} len={len} kids={kids}")?;
+    print_text(text.as_str(), out)
+}
+
+/// Appends the numbers of a node, from `cz=` to `kids=`.
+#[tactic(auto, unfolding(crate::specs::Texts::stat_text))]
+pub fn print_stat(meta: &Meta, out: &mut Vec<u8>) -> Result<(), NoMemory>
+    ensures { OnOk result (out.new.items ≡ out.old.items ++ stat_text meta.now) }
+{
+    print_indexes(meta.czxid, meta.mzxid, meta.pzxid, out)?;
+    print_times(meta.ctime, meta.mtime, out)?;
+    print_versions(meta.version, meta.cversion, meta.aversion, out)?;
+    print_sizes(meta.owner, meta.len, meta.kids, out)
+}
+
+/// Appends bytes in lower-case hexadecimal, `-` for none.
+#[tactic(auto, unfolding(crate::specs::Texts::data_text))]
+pub fn print_data(bytes: &[u8], out: &mut Vec<u8>) -> Result<(), NoMemory>
+    ensures { OnOk result (out.new.items ≡ out.old.items ++ data_text bytes.now) }
+{
+    if bytes.is_empty() {
+        return print_text("-", out);
+    }
+    let text = hex::encode(*out.allocator(), bytes)?;
+    print_text(text.as_str(), out)
+}
+
+fn print_name(name: &Text, out: &mut Vec<u8>) -> Result<(), NoMemory>
+    ensures { OnOk result (out.new.items ≡ out.old.items ++ (codes " " ++ name.now)) }
+{
+    print_text(" ", out)?;
+    print_text(name.as_str(), out)
+}
+
+/// Appends names, each behind a space.
+pub fn print_names(names: &[Text], out: &mut Vec<u8>) -> Result<(), NoMemory>
+    ensures { OnOk result (out.new.items ≡ out.old.items ++ names_text names.now) }
+{
+    for name in names {
+        print_name(name, out)?;
+    }
+    Ok(())
+}
+
+fn print_perms(perms: u32, out: &mut Vec<u8>) -> Result<(), NoMemory>
+    ensures { OnOk result (out.new.items ≡ out.old.items ++ (codes " " ++ (decimal perms ++ codes ":"))) }
+{
+    let text = format!(in *out.allocator(); " {perms}:")?;
+    print_text(text.as_str(), out)
+}
+
+fn print_acl(acl: &Acl, out: &mut Vec<u8>) -> Result<(), NoMemory>
+    ensures { OnOk result (out.new.items ≡ out.old.items ++ (codes " " ++ spelled_acl acl.now)) }
+{
+    print_perms(acl.perms, out)?;
+    print_text(acl.scheme.as_str(), out)?;
+    print_text(":", out)?;
+    print_text(acl.id.as_str(), out)
+}
+
+/// Appends the lines of an access list, each as `PERMS:SCHEME:ID` behind a space.
+pub fn print_acls(acls: &[Acl], out: &mut Vec<u8>) -> Result<(), NoMemory>
+    ensures { OnOk result (out.new.items ≡ out.old.items ++ acls_text acls.now) }
+{
+    for acl in acls {
+        print_acl(acl, out)?;
+    }
+    Ok(())
+}
+
+fn print_span(timeout: u32, epoch: u64, out: &mut Vec<u8>) -> Result<(), NoMemory>
+    ensures { OnOk result (out.new.items ≡ out.old.items ++ (codes "timeout=" ++ (decimal timeout ++ (codes " epoch=" ++ decimal epoch)))) }
+{
+    let text = format!(in *out.allocator(); "timeout={timeout} epoch={epoch}")?;
+    print_text(text.as_str(), out)
+}
+
+fn print_counts(seq: u64, ids: usize, out: &mut Vec<u8>) -> Result<(), NoMemory>
+    ensures { OnOk result (out.new.items ≡ out.old.items ++ (codes " seq=" ++ (decimal seq ++ (codes " ids=" ++ decimal ids)))) }
+{
+    let text = format!(in *out.allocator(); " seq={seq} ids={ids}")?;
+    print_text(text.as_str(), out)
+}
+
+/// Appends the numbers of a session, from `timeout=` to `ids=`.
+#[tactic(auto, unfolding(crate::specs::Texts::session_text))]
+pub fn print_session(session: &Session, out: &mut Vec<u8>) -> Result<(), NoMemory>
+    ensures { OnOk result (out.new.items ≡ out.old.items ++ session_text session.now) }
+{
+    print_span(session.timeout, session.epoch, out)?;
+    print_counts(session.seq, session.ids.len(), out)
+}
+
+fn print_path(path: &Text, out: &mut Vec<u8>) -> Result<(), NoMemory>
+    ensures { OnOk result (out.new.items ≡ out.old.items ++ (codes "ok path=" ++ path.now)) }
+{
+    print_text("ok path=", out)?;
+    print_text(path.as_str(), out)
+}
+
+fn print_changed(meta: &Meta, out: &mut Vec<u8>) -> Result<(), NoMemory>
+    ensures { OnOk result (out.new.items ≡ out.old.items ++ (codes "ok " ++ stat_text meta.now)) }
+{
+    print_text("ok ", out)?;
+    print_stat(meta, out)
+}
+
+fn print_error(code: i32, out: &mut Vec<u8>) -> Result<(), NoMemory>
+    ensures { OnOk result (out.new.items ≡ out.old.items ++ (codes "err=" ++ signed_decimal code)) }
+{
+    let text = format!(in *out.allocator(); "err={code}")?;
+    print_text(text.as_str(), out)
+}
+
+fn print_session_number(id: u64, out: &mut Vec<u8>) -> Result<(), NoMemory>
+    ensures { OnOk result (out.new.items ≡ out.old.items ++ (codes "ok session=" ++ decimal id)) }
+{
+    let text = format!(in *out.allocator(); "ok session={id}")?;
+    print_text(text.as_str(), out)
+}
+
+fn print_epoch(epoch: u64, out: &mut Vec<u8>) -> Result<(), NoMemory>
+    ensures { OnOk result (out.new.items ≡ out.old.items ++ (codes "ok epoch=" ++ decimal epoch)) }
+{
+    let text = format!(in *out.allocator(); "ok epoch={epoch}")?;
+    print_text(text.as_str(), out)
+}
+
+/// Appends a reply.
+#[tactic(auto, unfolding(crate::specs::Texts::reply_text))]
+pub fn print_reply(reply: &Reply, out: &mut Vec<u8>) -> Result<(), NoMemory>
+    ensures { OnOk result (out.new.items ≡ out.old.items ++ reply_text reply.now) }
+{
+    match reply {
+        Reply::Stale => print_text("stale", out),
+        Reply::Err(code) => print_error(*code, out),
+        Reply::Session(id) => print_session_number(*id, out),
+        Reply::Epoch(epoch) => print_epoch(*epoch, out),
+        Reply::Path(path) => print_path(path, out),
+        Reply::Stat(meta) => print_changed(meta, out),
+        Reply::PathStat(path, _) => print_path(path, out),
+        Reply::Done | Reply::Multi(_) | Reply::Failed(_) => print_text("ok", out),
+    }
+}

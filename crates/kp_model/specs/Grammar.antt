@@ -1,5 +1,5 @@
 -- What stands in a log entry: numbers within their limits, and texts, data and lists that fit length fields of 32 bits.
-use Rattle.std.specs.Prelude.{ℕ, Bool, true, ◌&&◌, ◌==◌, nat_le, List, length}
+use Rattle.std.specs.Prelude.{ℕ, Bool, true, ◌&&◌, ◌==◌, nat_le, List, length, IsTrue}
 use Rattle.std.specs.List.{list_all}
 use Rattle.kp_model.specs.declared.node.Acl.{Acl}
 use Rattle.kp_model.specs.declared.session.Origin.{Origin}
@@ -74,3 +74,6 @@ is_fitting (body.Write session epoch seq c) = fits_cmd c
 -- an entry that can be written down
 abbrev pub is_entry : LogEntry → Bool
 is_entry e = has_numbers e.term e.time e.body && is_fitting e.body
+
+abbrev pub IsEntry : LogEntry → Type 0
+IsEntry e = IsTrue (is_entry e)

@@ -13,5 +13,4 @@ pub mod Good
 pub mod Store
 pub mod Codes
 pub mod Poured
-pub mod Built
 pub mod Touched

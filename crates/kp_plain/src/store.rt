@@ -2,11 +2,10 @@ ghost use Rattle.std.specs.Prelude.{◌≡◌, ◌<◌, ◌^◌, ◌≤◌, ◌+
 ghost use Rattle.std.specs.FinMap as map;
 ghost use Rattle.std.specs.Option.{option_map};
 ghost use Rattle.kp_model.specs.Good.{IsSound};
-ghost use Rattle.kp_model.specs.Grammar.{is_entry};
+ghost use Rattle.kp_model.specs.Grammar.{is_entry, IsEntry};
 ghost use Rattle.kp_model.specs.State.{seen as seen_of};
 ghost use Rattle.kp_model.specs.Step.{apply, Outcome};
 ghost use Rattle.kp_model.specs.Store.{after, latest, last as last_of, empty, with_entry, kept as kept_of, outcome_in, truncated, commit_answer, commit_leaves};
-ghost use Rattle.kp_model.specs.Built.{is_built, IsTaken};
 
 use crate::tree::Tree;
 use kp_model::{Committed, Entry, NoMemory, Reply, Seen, Session, View};
@@ -63,7 +62,7 @@ fn step(alloc: Global, tree: Tree, entry: &Entry) -> Result<Tree, NoMemory>
 // The state behind some entries.
 fn replayed(alloc: Global, state: &Tree, entries: &[Entry]) -> Result<Tree, NoMemory>
     requires room { state.now.applied + length entries.now ≤ 2 ^ 62 }
-    requires taken { All IsTaken entries.now }
+    requires taken { All IsEntry entries.now }
     requires sound { IsSound state.now }
     ensures { IfOk result (λ t. t ≡ after state.now entries.now) }
 {
@@ -82,7 +81,7 @@ fn kept_at(
     place: u64,
 ) -> Result<Option<Reply>, NoMemory>
     requires room { state.now.applied + length entries.now ≤ 2 ^ 62 }
-    requires taken { All IsTaken entries.now }
+    requires taken { All IsEntry entries.now }
     requires sound { IsSound state.now }
     ensures { IfOk result (λ r. r ≡ option_map (λ (o : Outcome). o.reply) (outcome_in state.now entries.now place)) }
 {
@@ -106,7 +105,7 @@ fn first_applied(
 ) -> Result<(Tree, Committed), NoMemory>
     requires some { 0 < length entries.now }
     requires room { state.now.applied < 2 ^ 62 }
-    requires taken { All IsTaken entries.now }
+    requires taken { All IsEntry entries.now }
     requires sound { IsSound state.now }
     ensures answer { IfOk result (λ x. Some x.1 ≡ commit_answer state.now entries.now) }
     ensures state { IfOk result (λ x. record { state = x.0; unapplied = drop 1 entries.now } ≡ commit_leaves state.now entries.now) }
@@ -156,7 +155,6 @@ impl PlainStore {
     /// Adds an entry behind the last one, as a copy.
     pub fn preprocess(&mut self, entry: &Entry) -> Result<(), NoMemory>
         requires room { last_of self.old < 2 ^ 62 }
-        requires built { IsTrue (is_built entry.now.body) }
         ensures ok { OnOk result (self.new ≡ with_entry self.old entry.now) }
         ensures err { OnErr result (self.new ≡ self.old) }
     {

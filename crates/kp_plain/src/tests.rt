@@ -1,6 +1,5 @@
 ghost use Rattle.std.specs.Prelude.{◌≤◌, length, IsTrue, IfOk};
 ghost use Rattle.kp_model.specs.Grammar.{fits_cmd};
-ghost use Rattle.kp_model.specs.Built.{is_built, is_built_cmd};
 
 use crate::PlainStore;
 use kp_model::errors::NOT_EMPTY;
@@ -9,9 +8,7 @@ use std::alloc::Global;
 use std::test::Fail;
 
 // The opening of the first session.
-fn open() -> Entry
-    ensures { IsTrue (is_built result.body) }
-{
+fn open() -> Entry {
     Entry {
         term: 0,
         time: 0,
@@ -31,8 +28,6 @@ fn open() -> Entry
 fn write(seq: u64, cmd: Cmd) -> Entry
     requires number { seq ≤ 100 }
     requires fits { IsTrue (fits_cmd cmd) }
-    requires built { IsTrue (is_built_cmd cmd) }
-    ensures { IsTrue (is_built result.body) }
 {
     Entry {
         term: 0,
@@ -47,9 +42,7 @@ fn write(seq: u64, cmd: Cmd) -> Entry
 }
 
 // Adds an entry to a store that has room for it.
-fn add(store: &mut PlainStore, entry: &Entry) -> Result<(), NoMemory>
-    requires { IsTrue (is_built entry.now.body) }
-{
+fn add(store: &mut PlainStore, entry: &Entry) -> Result<(), NoMemory> {
     if store.last() < 1 << 62 {
         store.preprocess(entry)?;
     }

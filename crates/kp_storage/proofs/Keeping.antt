@@ -5,7 +5,7 @@ use Rattle.std.specs.List.{All}
 use Rattle.std.proofs.lemmas.List.Elements.{All-append, All-take, All-drop}
 use Rattle.std.proofs.lemmas.List.Sums.{list_all-from_AllPass}
 use Rattle.kp_model.specs.Good.{IsSound}
-use Rattle.kp_model.specs.Grammar.{is_entry}
+use Rattle.kp_model.specs.Grammar.{is_entry, IsEntry}
 use Rattle.kp_model.specs.LogEntry.{LogEntry}
 use Rattle.kp_model.specs.State.{State, empty}
 use Rattle.kp_model.specs.Step.{apply, Outcome}
@@ -16,7 +16,6 @@ use Rattle.kp_model.proofs.GoodEmpty.{empty_sound}
 use Rattle.kp_model.proofs.GoodSteps.{apply_sound, after_sound}
 use Rattle.kp_cells.specs.Parts.{parts_of, whole, FitTogether}
 use Rattle.kp_cells.specs.Overlays.{Overlays, depth, committed_parts, latest_parts, committed_state, latest_state, parts_under, applied_after, root_parts, settled, all_begun, all_sealed, all_committed, all_dropped}
-use Rattle.kp_model.specs.Built.{IsTaken}
 use Rattle.kp_storage.specs.Kept.{answers_of, IsLayered, Keeps, store}
 use Rattle.kp_model.specs.Touched.{touched}
 use Rattle.kp_prep.specs.Touching.{AreWithin, staged_keys}
@@ -91,7 +90,7 @@ module _ (o : Overlays) (es : List LogEntry) (answers : List Committed) (h : Kee
   depth_is = h.layered.metas.sealed
 
   pub latest_sound : IsSound (after s es)
-  latest_sound = after_sound s es (list_all-from_AllPass is_entry es (λ k d lt. (h.taken k d lt).0)) (omega (arith, h.room, applied_is o)) h.sound
+  latest_sound = after_sound s es (list_all-from_AllPass is_entry es h.taken) (omega (arith, h.room, applied_is o)) h.sound
 
   -- a layer is opened for one entry more
   begun_parts_are : latest_parts (all_begun o) ≡ parts_of (after s es)
@@ -111,14 +110,14 @@ module _ (o : Overlays) (es : List LogEntry) (answers : List Committed) (h : Kee
 
   -- the layer of one entry more is sealed
   module _ (p : Overlays) (e : LogEntry) (i : ℕ) (out : Outcome) (on : all_begun p ≡ all_begun o) (same_out : out ≡ apply (latest_state (all_begun o)) e) (stands : latest_parts p ≡ parts_of out.state)
-      (index : i ≡ o.applied + length es + 1) (lt : o.applied + length es < 4611686018427387904) (takes : IsTaken e) (within : AreWithin (touched (latest_state (all_begun o)) e) (staged_keys p)) where
+      (index : i ≡ o.applied + length es + 1) (lt : o.applied + length es < 4611686018427387904) (takes : IsEntry e) (within : AreWithin (touched (latest_state (all_begun o)) e) (staged_keys p)) where
     pub sealed_state : committed_state (all_sealed p) ≡ s
     sealed_state = ap committed_state on
 
     out_is : out ≡ apply (after s es) e
     out_is = same_out ∙ ap (λ (x : State). apply x e) begun_state_is
 
-    one_taken : All IsTaken (e ∷ [])
+    one_taken : All IsEntry (e ∷ [])
     one_taken zero d lt = takes
     one_taken (suc k) d lt = absurd (omega (arith, lt))
 
@@ -152,7 +151,7 @@ module _ (o : Overlays) (es : List LogEntry) (answers : List Committed) (h : Kee
     keeps_more = record {
       sound = subst IsSound (sym sealed_state) h.sound;
       room = omega (arith, ap (λ (x : Overlays). x.applied) on, lt, more);
-      taken = All-append IsTaken es (e ∷ []) h.taken one_taken;
+      taken = All-append IsEntry es (e ∷ []) h.taken one_taken;
       layered = subst (λ n. IsLayered n (all_sealed p)) (sym more) (sealed_layered o p (length es) h.layered on);
       stands = λ k le. ⊎_elim (before k) (λ (is : k ≡ length es + 1). subst (λ n. parts_under n (all_sealed p) ≡ parts_of (after (committed_state (all_sealed p)) (take n (es ++ e ∷ [])))) (sym is) last) (each k (omega (arith, le, more)));
       touches = touches_more o p es e h.layered on sealed_state h.touches (subst (λ (x : State). AreWithin (touched x e) (staged_keys p)) begun_state_is within);
@@ -173,7 +172,7 @@ module _ (o : Overlays) (es : List LogEntry) (answers : List Committed) (h : Kee
   keeps_less = record {
     sound = h.sound;
     room = omega (arith, h.room, less);
-    taken = All-take IsTaken (length es - 1) es h.taken;
+    taken = All-take IsEntry (length es - 1) es h.taken;
     layered = subst (λ n. IsLayered n (all_dropped o)) (sym less) (back_layered o (length es) h.layered);
     stands = λ k le. let within : k ≤ length es - 1 = omega (arith, le, less) in
         parts_back o (length es) k h.layered within
@@ -208,9 +207,9 @@ module _ (o : Overlays) (e : LogEntry) (es : List LogEntry) (answers : List Comm
   keeps_first : Keeps (all_committed o) es (drop 1 answers)
   unfolding after answers_of
   keeps_first = record {
-    sound = subst IsSound (sym first_state) (apply_sound (committed_state o) e (h.taken 0 e (omega arith)).0 (omega (arith, h.room, applied_is o)) h.sound);
+    sound = subst IsSound (sym first_state) (apply_sound (committed_state o) e (h.taken 0 e (omega arith)) (omega (arith, h.room, applied_is o)) h.sound);
     room = omega (arith, h.room, index, applied_is o, applied-apply (committed_state o) e);
-    taken = All-drop IsTaken 1 (e ∷ es) h.taken;
+    taken = All-drop IsEntry 1 (e ∷ es) h.taken;
     layered = front_layered o (length es) h.layered;
     stands = λ k le. parts_front o k ∙ h.stands (suc k) (omega (arith, le)) ∙ ap (λ (x : State). parts_of (after x (take k es))) (sym first_state);
     touches = touches_front o e es first_state h.touches;

@@ -11,7 +11,7 @@ use Rattle.kp_model.specs.Touched.{touched}
 use Rattle.kp_model.specs.declared.reply.Committed.{Committed}
 use Rattle.kp_cells.specs.Parts.{parts_of}
 use Rattle.kp_cells.specs.Overlays.{Overlays, committed_state, parts_under}
-use Rattle.kp_model.specs.Built.{IsTaken}
+use Rattle.kp_model.specs.Grammar.{IsEntry}
 use Rattle.kp_prep.specs.Touching.{AreWithin, layer_keys}
 
 -- what the entries are answered, each on the state behind those before it
@@ -42,11 +42,11 @@ StandsFor o es = (k : ℕ) → k ≤ length es → parts_under k o ≡ parts_of 
 abbrev pub TouchesOnly : Overlays → List LogEntry → Type 0
 TouchesOnly o es = (k : ℕ) (e : LogEntry) → slice_get es k ≡ Some e → AreWithin (touched (after (committed_state o) (take k es)) e) (layer_keys k o)
 
--- what a storage keeps: a sound committed state, indexes within their limit, entries that it takes, one layer for each of them, and their answers
+-- what a storage keeps: a sound committed state, indexes within their limit, entries that can be written down, one layer for each of them, and their answers
 pub record Keeps (o : Overlays) (es : List LogEntry) (answers : List Committed) : Type 0 where
   pub sound : IsSound (committed_state o)
   pub room : o.applied + length es ≤ 2 ^ 62
-  pub taken : All IsTaken es
+  pub taken : All IsEntry es
   pub layered : IsLayered (length es) o
   pub stands : StandsFor o es
   pub touches : TouchesOnly o es

@@ -9,7 +9,6 @@ ghost use Rattle.kp_model.specs.Touched.{touched};
 ghost use Rattle.kp_model.specs.Store.{after, latest as latest_of, last as last_of, empty, with_entry, kept as kept_of, truncated, commit_answer, commit_leaves};
 ghost use Rattle.kp_cells.specs.Parts.{parts_of};
 ghost use Rattle.kp_cells.specs.Overlays.{IsClosed, depth, committed_parts, latest_parts, committed_state, latest_state};
-ghost use Rattle.kp_model.specs.Built.{is_built};
 ghost use Rattle.kp_prep.specs.Touching.{AreWithin, layer_keys};
 
 use kp_cells::{Cells, CommittedView, LatestView};
@@ -97,7 +96,6 @@ impl Storage {
     /// Adds an entry behind the last one, as a copy, and works out its changes and its answer.
     pub fn preprocess(&mut self, entry: &Entry) -> Result<(), NoMemory>
         requires room { last_of self.old < 2 ^ 62 }
-        requires built { IsTrue (is_built entry.now.body) }
         ensures ok { OnOk result (self.new ≡ with_entry self.old entry.now) }
         ensures err { OnErr result (self.new ≡ self.old) }
     {

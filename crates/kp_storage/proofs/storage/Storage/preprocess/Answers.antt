@@ -6,7 +6,7 @@ use Rattle.kp_model.specs.Store.{Store, committed_as}
 use Rattle.kp_model.specs.declared.reply.Committed.{Committed}
 use Rattle.kp_cells.specs.Parts.{parts_of, FitTogether}
 use Rattle.kp_cells.specs.Overlays.{Overlays, latest_parts, latest_state, all_begun, all_sealed}
-use Rattle.kp_model.specs.Built.{IsTaken}
+use Rattle.kp_model.specs.Grammar.{IsEntry}
 use Rattle.kp_model.specs.Touched.{touched}
 use Rattle.kp_prep.specs.Touching.{AreWithin, staged_keys}
 use Rattle.kp_storage.proofs.Keeping.{applied_is, begun_fits, begun_sound, begun_next, keeps_more, keeps_as}
@@ -41,7 +41,7 @@ invariant_of-self-in-Ok c =
     omega (arith, c.last-index.ensures.index, applied_is o, ap (λ (x : Store). x.state.applied + length x.unapplied) c.self.view_is) in
     let room : o.applied + length c.self.inside.entries.items < 4611686018427387904 =
     omega (arith, c.requires.room, applied_is o, ap (λ (x : Store). x.state.applied + length x.unapplied) c.self.view_is) in
-    let taken : IsTaken e = subst IsTaken (sym c.in_ok-entry.ensures.same) (c.copied.ensures.grammar, c.requires.built) in
+    let taken : IsEntry e = subst IsEntry (sym c.in_ok-entry.ensures.same) c.copied.ensures.grammar in
     let within : AreWithin (touched (latest_state (all_begun o)) e) (staged_keys c.prepare.new.cells) = subst (λ (x : Overlays). AreWithin (touched (latest_state x) e) (staged_keys c.prepare.new.cells)) c.in_ok-begin.ensures.ok c.in-Ok.ensures.touches in
     let entries : c.push_back_reserved.new.self.items ≡ c.self.inside.entries.items ++ e ∷ [] =
     c.push_back_reserved.ensures.items ∙ ap (λ (xs : List LogEntry). xs ++ e ∷ []) c.reserve.ensures.items in

@@ -24,12 +24,6 @@ use lib.Chars.{codes}
 
 -- ---- a word, cut at its first colon
 
-first_of_pair : {A B : Type 0} (x y : A × B) → x ≡ y → x.0 ≡ y.0
-first_of_pair x y e = ap (λ p. p.0) e
-
-second_of_pair : {A B : Type 0} (x y : A × B) → x ≡ y → x.1 ≡ y.1
-second_of_pair x y e = ap (λ p. p.1) e
-
 -- what a cut gives is what it was made of
 abbrev IsCut : List ℕ → List ℕ × List ℕ → Type 0
 IsCut w x = (w ≡ x.0 ++ 58 ∷ x.1) × (has_no_colon x.0 ≡ true)
@@ -127,9 +121,6 @@ module _ (a : Acl) (h : is_acl a ≡ true) where
 
   id_fits : is_part a.id ≡ true
   id_fits = right (has_no_colon a.scheme && is_part a.scheme) (is_part a.id) texts_fit
-
-  rest_of : List ℕ
-  rest_of = a.scheme ++ 58 ∷ a.id
 
   cut_spelled : cut_at_colon (spelled_acl a) ≡ Some (decimal a.perms, a.scheme ++ 58 ∷ a.id)
   cut_spelled = cut_joined (decimal a.perms) (a.scheme ++ 58 ∷ a.id) (decimal_no_colon a.perms perms_fit)

@@ -5,10 +5,12 @@ mod Parted
 mod Visible
 mod Hexadecimal
 mod Versions
-mod NameTexts
 mod Choices
+mod Prints
 mod AclTexts
 mod AclSteps
+mod OperationTexts
+mod MultiTexts
+mod MultiSteps
 mod CommandTexts
 mod LineTexts
-mod AclPrints

@@ -22,7 +22,8 @@ use Rattle.kp_text.proofs.Visible.{visible_part, decimal_part}
 use Rattle.kp_text.proofs.Hexadecimal.{first_way, hex_word, passwd_is_spelled, passwd_is_read}
 use Rattle.kp_text.proofs.Parted.{words_are_all, words_are_parts, line_of_words}
 use Rattle.kp_text.proofs.Choices.{bound, got, either_way, chosen_word, only_word}
-use Rattle.kp_text.proofs.CommandTexts.{path_is_spelled, path_is_read, path_part, alone, before, head_part, tail_parts, command_read, command_back, command_parts, name_part}
+use Rattle.kp_text.proofs.OperationTexts.{path_is_spelled, path_is_read, path_part, alone, before, head_part, tail_parts}
+use Rattle.kp_text.proofs.CommandTexts.{command_read, command_back, command_parts, name_part}
 use lib.Chars.{codes}
 
 -- ---- numbers
@@ -266,6 +267,7 @@ write_name (command.Operation (op.Set path bytes version)) w ws = refl
 write_name (command.Operation (op.Check path version)) w ws = refl
 write_name (command.SetAcl path version acl) w ws = refl
 write_name (command.Auth scheme auth) w ws = refl
+write_name (command.Multi operations) w ws = refl
 write_name (command.Sync path) w ws = refl
 write_name command.Close w ws = refl
 

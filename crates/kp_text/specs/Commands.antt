@@ -1,5 +1,6 @@
 -- The commands of the store language, as functions that read their words.
-use Rattle.std.specs.Prelude.{ℕ, List, [], ◌∷◌, Option, Some, None, if◌then◌else◌}
+use Rattle.std.specs.Prelude.{ℕ, Bool, List, [], ◌∷◌, Option, Some, None, if◌then◌else◌}
+use Rattle.std.specs.List.{slice_split}
 use Rattle.std.specs.Str.{bytes_eq}
 use Rattle.kp_text.specs.Words.{◌>>=◌, int_limit, number_of, version_of, data_of, path_of}
 use Rattle.kp_text.specs.AclWords.{acl_list_of, acl_given_by}
@@ -79,6 +80,27 @@ unfoldable pub close_of : List (List ℕ) → Option Command
 close_of [] = Some command.Close
 close_of (w ∷ ws) = None
 
+-- in a multi each word `;` parts two operations
+abbrev pub is_separator : List ℕ → Bool
+is_separator w = bytes_eq w (codes ";")
+
+-- the operation that words are: its name first
+abbrev pub operation_in : List (List ℕ) → Option Operation
+operation_in [] = None
+operation_in (name ∷ ws) = operation_of name ws
+
+unfoldable pub operations_of : List (List (List ℕ)) → Option (List Operation)
+operations_of [] = Some []
+operations_of (part ∷ parts) = do
+  o ← operation_in part
+  more ← operations_of parts
+  Some (o ∷ more)
+
+-- `OP ; OP`, or no word
+unfoldable pub multi_of : List (List ℕ) → Option Command
+multi_of [] = Some (command.Multi [])
+multi_of (w ∷ ws) = operations_of (slice_split is_separator (w ∷ ws)) >>= λ operations. Some (command.Multi operations)
+
 -- a command that a multi may hold too
 unfoldable pub single_of : List ℕ → List (List ℕ) → Option Command
 single_of name ws = operation_of name ws >>= λ o. Some (command.Operation o)
@@ -88,6 +110,7 @@ unfoldable pub command_of : List ℕ → List (List ℕ) → Option Command
 command_of name ws =
     if bytes_eq name (codes "setacl") then setacl_of ws
     else (if bytes_eq name (codes "auth") then auth_of ws
+    else (if bytes_eq name (codes "multi") then multi_of ws
     else (if bytes_eq name (codes "sync") then sync_of ws
     else (if bytes_eq name (codes "close") then close_of ws
-    else single_of name ws)))
+    else single_of name ws))))

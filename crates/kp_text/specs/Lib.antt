@@ -1,6 +1,7 @@
 pub mod Words
 pub mod AclWords
 pub mod Commands
+pub mod WordParts
 pub mod Lines
 pub mod Spelling
 pub mod Texts

@@ -8,6 +8,7 @@ use Rattle.kp_model.specs.declared.node.Acl.{Acl as AclLine}
 use Rattle.kp_model.specs.Grammar.{is_number, is_timeout}
 use Rattle.kp_text.specs.Words.{is_empty, is_space, int_limit, any_version}
 use Rattle.kp_text.specs.AclWords.{is_colon}
+use Rattle.kp_text.specs.Commands.{is_separator}
 use Rattle.kp_text.specs.declared.command.Operation.{Operation}
 use Rattle.kp_text.specs.declared.command.Operation.TheVariants as op
 use Rattle.kp_text.specs.declared.command.Command.{Command}
@@ -58,38 +59,6 @@ abbrev pub are_given_acls : Option (List AclLine) → Bool
 are_given_acls None = true
 are_given_acls (Some acl) = are_acls acl
 
--- numbers within their limits, paths that are words
-abbrev pub is_operation : Operation → Bool
-is_operation (op.Create path flags bytes acl) = is_word path && (is_int flags && (are_bytes bytes && are_given_acls acl))
-is_operation (op.Delete path version) = is_word path && is_asked version
-is_operation (op.Set path bytes version) = is_word path && (are_bytes bytes && is_asked version)
-is_operation (op.Check path version) = is_word path && is_asked version
-
-abbrev pub is_command : Command → Bool
-is_command (command.Operation o) = is_operation o
-is_command (command.SetAcl path version acl) = is_word path && (is_asked version && are_acls acl)
-is_command (command.Auth scheme auth) = is_word scheme && are_bytes auth
-is_command (command.Sync path) = is_word path
-is_command command.Close = true
-
--- numbers within their limits, paths that are words, passwords of 16 bytes
-abbrev pub is_line : StoreLine → Bool
-is_line (Time t) = is_number t
-is_line (Open timeout passwd) = is_timeout timeout && is_passwd passwd
-is_line (Attach session passwd) = is_number session && is_passwd passwd
-is_line (Expire session) = is_number session
-is_line Noop = true
-is_line (Write session c) = is_number session && is_command c
-is_line (Raw session epoch seq c) = is_number session && (is_number epoch && (is_number seq && is_command c))
-is_line Commit = true
-is_line (Truncate k) = is_number k
-is_line (Peek path) = is_word path
-is_line (See path) = is_word path
-is_line (Kids path) = is_word path
-is_line (Ls path) = is_word path
-is_line (Acl path) = is_word path
-is_line (Who session) = is_number session
-
 -- bytes in lower-case hexadecimal, and `-` for none
 abbrev pub spelled_data : List ℕ → List ℕ
 spelled_data [] = codes "-"
@@ -126,11 +95,58 @@ operation_words (op.Delete path version) = path ∷ spelled_version version ∷ 
 operation_words (op.Set path bytes version) = path ∷ spelled_data bytes ∷ spelled_version version ∷ []
 operation_words (op.Check path version) = path ∷ spelled_version version ∷ []
 
+abbrev pub operation_line : Operation → List (List ℕ)
+operation_line o = operation_name o ∷ operation_words o
+
+-- the words of each, with the word `;` between two
+abbrev pub separated : List (List (List ℕ)) → List (List ℕ)
+separated [] = []
+separated (part ∷ []) = part
+separated (part ∷ next ∷ parts) = part ++ codes ";" ∷ separated (next ∷ parts)
+
+-- numbers within their limits, paths that are words
+abbrev pub is_operation : Operation → Bool
+is_operation (op.Create path flags bytes acl) = is_word path && (is_int flags && (are_bytes bytes && are_given_acls acl))
+is_operation (op.Delete path version) = is_word path && is_asked version
+is_operation (op.Set path bytes version) = is_word path && (are_bytes bytes && is_asked version)
+is_operation (op.Check path version) = is_word path && is_asked version
+
+-- an operation of a multi: none of its words is `;`
+abbrev pub is_nested : Operation → Bool
+is_nested o = is_operation o && list_all (λ w. not (is_separator w)) (operation_name o ∷ operation_words o)
+
+abbrev pub is_command : Command → Bool
+is_command (command.Operation o) = is_operation o
+is_command (command.SetAcl path version acl) = is_word path && (is_asked version && are_acls acl)
+is_command (command.Auth scheme auth) = is_word scheme && are_bytes auth
+is_command (command.Multi operations) = list_all is_nested operations
+is_command (command.Sync path) = is_word path
+is_command command.Close = true
+
+-- numbers within their limits, paths that are words, passwords of 16 bytes
+abbrev pub is_line : StoreLine → Bool
+is_line (Time t) = is_number t
+is_line (Open timeout passwd) = is_timeout timeout && is_passwd passwd
+is_line (Attach session passwd) = is_number session && is_passwd passwd
+is_line (Expire session) = is_number session
+is_line Noop = true
+is_line (Write session c) = is_number session && is_command c
+is_line (Raw session epoch seq c) = is_number session && (is_number epoch && (is_number seq && is_command c))
+is_line Commit = true
+is_line (Truncate k) = is_number k
+is_line (Peek path) = is_word path
+is_line (See path) = is_word path
+is_line (Kids path) = is_word path
+is_line (Ls path) = is_word path
+is_line (Acl path) = is_word path
+is_line (Who session) = is_number session
+
 -- a command's name, and the words behind it
 abbrev pub command_name : Command → List ℕ
 command_name (command.Operation o) = operation_name o
 command_name (command.SetAcl path version acl) = codes "setacl"
 command_name (command.Auth scheme auth) = codes "auth"
+command_name (command.Multi operations) = codes "multi"
 command_name (command.Sync path) = codes "sync"
 command_name command.Close = codes "close"
 
@@ -138,6 +154,7 @@ abbrev pub command_words : Command → List (List ℕ)
 command_words (command.Operation o) = operation_words o
 command_words (command.SetAcl path version acl) = path ∷ spelled_version version ∷ acl_words acl
 command_words (command.Auth scheme auth) = scheme ∷ spelled_data auth ∷ []
+command_words (command.Multi operations) = separated (map operation_line operations)
 command_words (command.Sync path) = path ∷ []
 command_words command.Close = []
 

@@ -1,9 +1,11 @@
-ghost use Rattle.std.specs.Prelude.{◌≡◌, map, IfOk};
-ghost use Rattle.kp_text.specs.Commands.{create_of as creation, delete_of as deletion, set_of as setting, check_of as checking, operation_of as operation_in, setacl_of as acl_setting, auth_of as authentication, sync_of as syncing, close_of as closing, single_of as single_in, command_of as command_in};
+ghost use Rattle.std.specs.Prelude.{◌≡◌, ◌<◌, ◌+◌, ◌∷◌, length, map, IfOk};
+ghost use Rattle.std.specs.List.{position, slice_split};
+ghost use Rattle.kp_text.specs.WordParts.{parts_left, left_len};
+ghost use Rattle.kp_text.specs.Commands.{create_of as creation, delete_of as deletion, set_of as setting, check_of as checking, operation_of as operation_named, setacl_of as acl_setting, auth_of as authentication, sync_of as syncing, close_of as closing, is_separator, operation_in as operation_at, operations_of as operations_in, multi_of as multi_in, single_of as single_in, command_of as command_in};
 
 use crate::acl::{acl_given_by, acl_list_of};
 use crate::words::{INT_LIMIT, data_of, number_of, path_of, version_of};
-use kp_model::{Acls, Bytes, NoMemory, Text};
+use kp_model::{Acls, Bytes, Items, NoMemory, Text};
 use std::alloc::Global;
 
 /// A command that a multi may hold, with the words that spell it. Version 4,294,967,295 is -1 and matches every version.
@@ -35,6 +37,9 @@ pub enum Operation {
     },
 }
 
+/// The operations of a multi.
+pub type Operations = Items<Operation>;
+
 /// A command of a session, with the words that spell it.
 #[derive(Debug, Drop)]
 pub enum Command {
@@ -44,6 +49,8 @@ pub enum Command {
     SetAcl { path: Text, version: u32, acl: Acls },
     /// `auth SCHEME HEX`: adds a digest id to those of the session.
     Auth { scheme: Text, auth: Bytes },
+    /// `multi OP ; OP`: takes all operations or none.
+    Multi { operations: Operations },
     /// `sync PATH`: changes nothing and answers the path.
     Sync { path: Text },
     /// `close`: ends the session.
@@ -144,7 +151,7 @@ fn check_of(alloc: Global, words: &[&str]) -> Result<Option<Operation>, NoMemory
 /// The operation that a name and the words behind it are.
 #[tactic(auto, unfolding(crate::specs::Commands::operation_of))]
 fn operation_of(alloc: Global, name: &str, words: &[&str]) -> Result<Option<Operation>, NoMemory>
-    ensures { IfOk result (λ o. o ≡ operation_in name.now (map (λ x. x.now) words.now)) }
+    ensures { IfOk result (λ o. o ≡ operation_named name.now (map (λ x. x.now) words.now)) }
 {
     if name == "create" {
         create_of(alloc, words)
@@ -201,6 +208,65 @@ fn auth_of(alloc: Global, words: &[&str]) -> Result<Option<Command>, NoMemory>
     }
 }
 
+/// The operation that words are, its name first.
+fn operation_in(alloc: Global, words: &[&str]) -> Result<Option<Operation>, NoMemory>
+    ensures { IfOk result (λ o. o ≡ operation_at (map (λ x. x.now) words.now)) }
+{
+    match words {
+        [] => Ok(None),
+        [name, others @ ..] => operation_of(alloc, name, others),
+    }
+}
+
+fn first_separator(words: &[&str]) -> Option<usize>
+    ensures { result ≡ position (λ x. is_separator x.now) words.now }
+{
+    words.iter().position(|word| *word == ";")
+}
+
+/// The words before the first `;`, and those behind it where there is one.
+fn first_part<'a, 'b>(words: &'a [&'b str]) -> (&'a [&'b str], Option<&'a [&'b str]>)
+    ensures parts { slice_split is_separator (map (λ x. x.now) words.now) ≡ map (λ x. x.now) result.0.now ∷ parts_left result.1 }
+    ensures shorter { left_len result.1 < length words.now + 1 }
+{
+    match first_separator(words) {
+        None => (words, None),
+        Some(at) => (&words[..at], Some(&words[at + 1..])),
+    }
+}
+
+/// The operations that words are, where each word `;` parts two.
+fn operations_of(alloc: Global, words: &[&str]) -> Result<Option<Operations>, NoMemory>
+    ensures { IfOk result (λ o. o ≡ operations_in (slice_split is_separator (map (λ x. x.now) words.now))) }
+{
+    let mut operations = Operations::new(alloc);
+    let mut rest = Some(words);
+    while let Some(left) = rest {
+        let (part, after) = first_part(left);
+        match operation_in(alloc, part)? {
+            None => return Ok(None),
+            Some(operation) => operations.push(operation)?,
+        }
+        rest = after;
+    }
+    Ok(Some(operations))
+}
+
+#[tactic(auto, unfolding(crate::specs::Commands::multi_of))]
+fn multi_of(alloc: Global, words: &[&str]) -> Result<Option<Command>, NoMemory>
+    ensures { IfOk result (λ o. o ≡ multi_in (map (λ x. x.now) words.now)) }
+{
+    match words {
+        [] => Ok(Some(Command::Multi {
+            operations: Operations::new(alloc),
+        })),
+        _ => match operations_of(alloc, words)? {
+            None => Ok(None),
+            Some(operations) => Ok(Some(Command::Multi { operations })),
+        },
+    }
+}
+
 #[tactic(auto, unfolding(crate::specs::Commands::sync_of))]
 fn sync_of(alloc: Global, words: &[&str]) -> Result<Option<Command>, NoMemory>
     ensures { IfOk result (λ o. o ≡ syncing (map (λ x. x.now) words.now)) }
@@ -243,6 +309,8 @@ pub fn command_of(alloc: Global, name: &str, words: &[&str]) -> Result<Option<Co
         setacl_of(alloc, words)
     } else if name == "auth" {
         auth_of(alloc, words)
+    } else if name == "multi" {
+        multi_of(alloc, words)
     } else if name == "sync" {
         sync_of(alloc, words)
     } else if name == "close" {

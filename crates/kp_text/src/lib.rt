@@ -8,7 +8,7 @@ mod line;
 mod print;
 mod words;
 
-pub use command::{Command, Operation};
+pub use command::{Command, Operation, Operations};
 pub use fail::LineFail;
 pub use line::{StoreLine, read_store_line};
 pub use print::{

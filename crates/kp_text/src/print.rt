@@ -1,9 +1,9 @@
-ghost use Rattle.std.specs.Prelude.{◌≡◌, ◌++◌, OnOk, codes};
-ghost use Rattle.std.specs.Fmt.{decimal, signed_decimal};
-ghost use Rattle.kp_text.specs.Texts.{data_text, stat_text, indexes_text, times_text, versions_text, sizes_text, reply_text, names_text, acls_text, session_text};
+ghost use Rattle.std.specs.Prelude.{◌≡◌, ◌++◌, length, map, OnOk, codes};
+ghost use Rattle.std.specs.Fmt.{decimal};
+ghost use Rattle.kp_text.specs.Texts.{data_text, stat_text, indexes_text, times_text, versions_text, sizes_text, reply_text, names_text, acls_text, session_text, op_reply_text, error_text, further_text, parts_text};
 ghost use Rattle.kp_text.specs.Spelling.{spelled_acl};
 
-use kp_model::{Acl, Meta, NoMemory, Reply, Session, Text};
+use kp_model::{Acl, Meta, NoMemory, OpReply, Reply, Session, Text};
 
 /// Appends a text as it is.
 pub fn print_text(text: &str, out: &mut Vec<u8>) -> Result<(), NoMemory>
@@ -145,7 +145,7 @@ fn print_changed(meta: &Meta, out: &mut Vec<u8>) -> Result<(), NoMemory>
 }
 
 fn print_error(code: i32, out: &mut Vec<u8>) -> Result<(), NoMemory>
-    ensures { OnOk result (out.new.items ≡ out.old.items ++ (codes "err=" ++ signed_decimal code)) }
+    ensures { OnOk result (out.new.items ≡ out.old.items ++ error_text code) }
 {
     let text = format!(in *out.allocator(); "err={code}")?;
     print_text(text.as_str(), out)
@@ -165,6 +165,104 @@ fn print_epoch(epoch: u64, out: &mut Vec<u8>) -> Result<(), NoMemory>
     print_text(text.as_str(), out)
 }
 
+/// Appends what an operation of a multi was answered.
+fn print_op_reply(reply: &OpReply, out: &mut Vec<u8>) -> Result<(), NoMemory>
+    ensures { OnOk result (out.new.items ≡ out.old.items ++ op_reply_text reply.now) }
+{
+    match reply {
+        OpReply::Done => print_text("ok", out),
+        OpReply::Path(path) => print_path(path, out),
+        OpReply::PathStat(path, _) => print_path(path, out),
+        OpReply::Stat(meta) => print_changed(meta, out),
+    }
+}
+
+fn print_further_reply(reply: &OpReply, out: &mut Vec<u8>) -> Result<(), NoMemory>
+    ensures { OnOk result (out.new.items ≡ out.old.items ++ (codes " | " ++ op_reply_text reply.now)) }
+{
+    print_text(" | ", out)?;
+    print_op_reply(reply, out)
+}
+
+fn print_further_replies(replies: &[OpReply], out: &mut Vec<u8>) -> Result<(), NoMemory>
+    ensures { OnOk result (out.new.items ≡ out.old.items ++ further_text (map op_reply_text replies.now)) }
+{
+    for reply in replies {
+        print_further_reply(reply, out)?;
+    }
+    Ok(())
+}
+
+fn print_op_replies(replies: &[OpReply], out: &mut Vec<u8>) -> Result<(), NoMemory>
+    ensures { OnOk result (out.new.items ≡ out.old.items ++ parts_text (map op_reply_text replies.now)) }
+{
+    match replies {
+        [] => Ok(()),
+        [first, others @ ..] => {
+            print_text(" ", out)?;
+            print_op_reply(first, out)?;
+            print_further_replies(others, out)
+        }
+    }
+}
+
+fn print_further_error(code: &i32, out: &mut Vec<u8>) -> Result<(), NoMemory>
+    ensures { OnOk result (out.new.items ≡ out.old.items ++ (codes " | " ++ error_text code.now)) }
+{
+    print_text(" | ", out)?;
+    print_error(*code, out)
+}
+
+fn print_further_errors(errors: &[i32], out: &mut Vec<u8>) -> Result<(), NoMemory>
+    ensures { OnOk result (out.new.items ≡ out.old.items ++ further_text (map error_text errors.now)) }
+{
+    for code in errors {
+        print_further_error(code, out)?;
+    }
+    Ok(())
+}
+
+fn print_errors(errors: &[i32], out: &mut Vec<u8>) -> Result<(), NoMemory>
+    ensures { OnOk result (out.new.items ≡ out.old.items ++ parts_text (map error_text errors.now)) }
+{
+    match errors {
+        [] => Ok(()),
+        [first, others @ ..] => {
+            print_text(" ", out)?;
+            print_error(*first, out)?;
+            print_further_errors(others, out)
+        }
+    }
+}
+
+fn print_multi_head(count: usize, out: &mut Vec<u8>) -> Result<(), NoMemory>
+    ensures { OnOk result (out.new.items ≡ out.old.items ++ (codes "multi " ++ (decimal count ++ codes ":"))) }
+{
+    let text = format!(in *out.allocator(); "multi {count}:")?;
+    print_text(text.as_str(), out)
+}
+
+fn print_multi(replies: &[OpReply], out: &mut Vec<u8>) -> Result<(), NoMemory>
+    ensures { OnOk result (out.new.items ≡ out.old.items ++ (codes "multi " ++ (decimal (length replies.now) ++ (codes ":" ++ parts_text (map op_reply_text replies.now))))) }
+{
+    print_multi_head(replies.len(), out)?;
+    print_op_replies(replies, out)
+}
+
+fn print_failed_head(count: usize, out: &mut Vec<u8>) -> Result<(), NoMemory>
+    ensures { OnOk result (out.new.items ≡ out.old.items ++ (codes "fail " ++ (decimal count ++ codes ":"))) }
+{
+    let text = format!(in *out.allocator(); "fail {count}:")?;
+    print_text(text.as_str(), out)
+}
+
+fn print_failed(errors: &[i32], out: &mut Vec<u8>) -> Result<(), NoMemory>
+    ensures { OnOk result (out.new.items ≡ out.old.items ++ (codes "fail " ++ (decimal (length errors.now) ++ (codes ":" ++ parts_text (map error_text errors.now))))) }
+{
+    print_failed_head(errors.len(), out)?;
+    print_errors(errors, out)
+}
+
 /// Appends a reply.
 #[tactic(auto, unfolding(crate::specs::Texts::reply_text))]
 pub fn print_reply(reply: &Reply, out: &mut Vec<u8>) -> Result<(), NoMemory>
@@ -178,6 +276,8 @@ pub fn print_reply(reply: &Reply, out: &mut Vec<u8>) -> Result<(), NoMemory>
         Reply::Path(path) => print_path(path, out),
         Reply::Stat(meta) => print_changed(meta, out),
         Reply::PathStat(path, _) => print_path(path, out),
-        Reply::Done | Reply::Multi(_) | Reply::Failed(_) => print_text("ok", out),
+        Reply::Done => print_text("ok", out),
+        Reply::Multi(replies) => print_multi(replies.as_slice(), out),
+        Reply::Failed(errors) => print_failed(errors.as_slice(), out),
     }
 }

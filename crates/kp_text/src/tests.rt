@@ -4,7 +4,7 @@ use std::alloc::Global;
 use std::test::Fail;
 
 /// Texts that are no line.
-const BAD: [&[u8]; 61] = [
+const BAD: [&[u8]; 78] = [
     b"",
     b" ",
     b"noop ",
@@ -66,10 +66,27 @@ const BAD: [&[u8]; 61] = [
     b"acl /a 1",
     b"who /a",
     b"peek /\xff",
+    b"multi",
+    b"multi ",
+    b"multi 1 ;",
+    b"multi 1 create /a 0 - ;",
+    b"multi 1 ; create /a 0 -",
+    b"multi 1 create /a 0 - ; ; check /a 0",
+    b"multi 1 create /a 0 - check /a 0",
+    b"multi 1 create ; 0 -",
+    b"multi 1 create 1 /a 0 -",
+    b"multi 1 sync /",
+    b"multi 1 close",
+    b"multi 1 setacl /a 0 noacl",
+    b"multi 1 auth digest 00",
+    b"multi 1 check /a 0 ; multi",
+    b"multi 1 raw 1 1 1 close",
+    b"raw 1 1 1 multi ;",
+    b"raw 1 1 1 multi 1",
 ];
 
 /// Lines.
-const GOOD: [&[u8]; 24] = [
+const GOOD: [&[u8]; 30] = [
     b"time 4611686018427387904",
     b"open 10000 00000000000000000000000000000000",
     b"attach 0 000102030405060708090a0b0c0d0e0f",
@@ -94,6 +111,12 @@ const GOOD: [&[u8]; 24] = [
     b"check 1 /a -1",
     b"truncate 0",
     b"see \0",
+    b"multi 1",
+    b"multi 1 create /m 0 - ; set /m 01 -1 ; check /none -1",
+    b"multi 1 create /a; 0 - 31:;:; ; delete /a; -1 ; create /b 3 - noacl",
+    b"raw 1 1 1 multi",
+    b"raw 1 1 1 multi check ;; 0 ; check /a 0",
+    b"delete 1 ; 0",
 ];
 
 /// Whether these bytes are a line.

@@ -3,3 +3,4 @@ mod Streams
 mod Paces
 mod Looks
 mod Runs
+mod Mapped

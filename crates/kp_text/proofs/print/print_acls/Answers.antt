@@ -1,13 +1,16 @@
-use Rattle.std.proofs.Common.{◌++◌}
+use Rattle.std.proofs.Common.{◌++◌, refl}
+use Rattle.kp_model.specs.declared.node.Acl.{Acl}
+use Rattle.kp_text.specs.Spelling.{spelled_acl}
 use Rattle.kp_text.specs.Texts.{acls_text}
-use Rattle.kp_text.proofs.AclPrints.{acls_printed_more, acls_printed_all}
+use Rattle.kp_text.proofs.Prints.{printed_more, printed_all}
 use Rattle.kp_text.proofs.print.print_acls.Goals as goal
+use lib.Chars.{codes}
 
 pub loop-acl-preserved : goal.loop-acl-preserved
 loop-acl-preserved c =
-    acls_printed_more c.loop-acl.out.items c.print_acl.new.out.items (c.args.out.now.items ++ acls_text c.args.acls.now) c.args.acls.now c.loop-acl.acl-index c.acl-item.result
+    printed_more (λ (x : Acl). codes " " ++ spelled_acl x) (acls_text) (refl, λ _ _. refl) c.loop-acl.out.items c.print_acl.new.out.items (c.args.out.now.items ++ acls_text c.args.acls.now) c.args.acls.now c.loop-acl.acl-index c.acl-item.result
     c.loop-acl-test.true c.acl-item.is c.in_ok-print_acl.ensures c.loop-acl.invariant
 
 pub returns : goal.returns
 returns c =
-    acls_printed_all c.loop-acl.out.items (c.args.out.now.items ++ acls_text c.args.acls.now) c.args.acls.now c.loop-acl.acl-index c.loop-acl-test.false c.loop-acl.invariant
+    printed_all (λ (x : Acl). codes " " ++ spelled_acl x) (acls_text) (refl, λ _ _. refl) c.loop-acl.out.items (c.args.out.now.items ++ acls_text c.args.acls.now) c.args.acls.now c.loop-acl.acl-index c.loop-acl-test.false c.loop-acl.invariant

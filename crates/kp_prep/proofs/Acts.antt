@@ -86,6 +86,7 @@ created_does s ids i t path bytes acl owner with_stat up fits places h =
           ∙ ap (λ m. map.insert (map.insert s.nodes (parent path) (node_of p.0.bytes p.0.acl m)) path w) shown
           ∙ sym grow;
       on = (refl, record { child = h.child; above = formed s.nodes places (parent path) p.0 p.1 });
+      suits = (free, ap is_some p.1);
       owner = tt;
       fits = fits;
     })
@@ -129,6 +130,7 @@ deleted_does s i path found left places above there child is_left =
           ∙ ap (λ m. map.remove (map.insert s.nodes (parent path) (node_of p.0.bytes p.0.acl m)) path) shown
           ∙ sym shrink;
       on = (refl, record { child = child; above = formed s.nodes places (parent path) p.0 p.1 });
+      suits = (ap is_some q.1, ap is_some p.1);
       owner = owner_told s path q.0 found.meta.owner q.1 owner;
       fits = tt;
     }
@@ -157,6 +159,7 @@ set_does s ids perm i t path bytes version m fits h =
           ∙ ap (λ x. map.insert s.nodes path (node_of bytes p.0.acl x)) shown
           ∙ sym now;
       on = (refl, h.well_formed);
+      suits = ap is_some p.1;
       owner = tt;
       fits = fits;
     })
@@ -182,13 +185,14 @@ set_acl_does s ids path acl version m is_path h =
           ∙ ap (λ x. map.insert s.nodes path (node_of p.0.bytes acl x)) shown
           ∙ sym now;
       on = (refl, is_path);
+      suits = ap is_some p.1;
       owner = tt;
       fits = tt;
     })
 
 -- an answer alone
 pub answers : (path : List ℕ) (s : State) (r : Reply) → IsAct path s (replies s r) (answered_act r)
-answers path s r = record { reply = refl; events = refl; parts = refl; nodes = refl; on = tt; owner = tt; fits = tt }
+answers path s r = record { reply = refl; events = refl; parts = refl; nodes = refl; on = tt; suits = tt; owner = tt; fits = tt }
 
 -- a check that fails
 pub refused : (path : List ℕ) (s : State) (o : Outcome) (f : Option ℤ) (e : ℤ) → f ≡ Some e → IsAct path s (unless f s o) (answered_act (reply.Err e))

@@ -125,15 +125,15 @@ module _ (i : ℕ) (now : Nodes) (p : List ℕ) (u n : Node) (above : fin.get no
       record { meta = meta_same now (shrunk now i p) q same kids; kids = kids }
 
 -- what was kept tells a path that is seen as before
-still : (nodes now after : Nodes) (q : List ℕ) (o : Option Known) → IsSame now after q → Tells nodes now q o → Tells nodes after q o
+pub still : (nodes now after : Nodes) (q : List ℕ) (o : Option Known) → IsSame now after q → Tells nodes now q o → Tells nodes after q o
 still nodes now after q None same h = record { meta = same.meta ∙ h.meta; kids = same.kids ∙ h.kids }
 still nodes now after q (Some k) same h = record { meta = h.meta ∙ sym same.meta; kids = h.kids ∙ sym same.kids }
 
 -- the path and its parent are kept
-told : (nodes now after : Nodes) (p up q : List ℕ) (none left : Known) (o : Option Known) (a b : Bool) → bytes_eq p q ≡ a → bytes_eq up q ≡ b → IsKnown after p none → IsKnown after up left → (bytes_eq p q ≡ false → bytes_eq up q ≡ false → IsSame now after q) → Tells nodes now q o → Tells nodes after q (cond a (Some none) (cond b (Some left) o))
-told nodes now after p up q none left o true b e f at at_up same h = subst (λ r. IsKnown after r none) ((bytes_eq-Decides p q).0 e) at
-told nodes now after p up q none left o false true e f at at_up same h = subst (λ r. IsKnown after r left) ((bytes_eq-Decides up q).0 f) at_up
-told nodes now after p up q none left o false false e f at at_up same h = still nodes now after q o (same e f) h
+pub draft_told : (nodes now after : Nodes) (p up q : List ℕ) (none left : Known) (o : Option Known) (a b : Bool) → bytes_eq p q ≡ a → bytes_eq up q ≡ b → IsKnown after p none → IsKnown after up left → (bytes_eq p q ≡ false → bytes_eq up q ≡ false → IsSame now after q) → Tells nodes now q o → Tells nodes after q (cond a (Some none) (cond b (Some left) o))
+draft_told nodes now after p up q none left o true b e f at at_up same h = subst (λ r. IsKnown after r none) ((bytes_eq-Decides p q).0 e) at
+draft_told nodes now after p up q none left o false true e f at at_up same h = subst (λ r. IsKnown after r left) ((bytes_eq-Decides up q).0 f) at_up
+draft_told nodes now after p up q none left o false false e f at at_up same h = still nodes now after q o (same e f) h
 
 -- both facts together
 pub on_ok_both : {X E : Type 0} {A B C : Type 0} (r : Result X E) → OnOk r A → OnOk r B → (A → B → C) → OnOk r C
@@ -184,7 +184,7 @@ module _ {Z : Type 0} (i id : ℕ) (nodes : Nodes) (es after : List Effect) (kep
       let next : effected_nodes_by nodes after ≡ shrunk now i p = ap (effected_nodes_by nodes) pushed_is ∙ effected-push nodes es (removal i id now p) ∙ removal_nodes i id now p u.0 u.1 in
       subst (λ z. Tells nodes z q (known_at new q)) (sym next) (
       subst (Tells nodes (shrunk now i p) q) (sym (keeps q)) (
-      told nodes now (shrunk now i p) p up q none left (known_at kept q) (bytes_eq p q) (bytes_eq up q) refl refl
+      draft_told nodes now (shrunk now i p) p up q none left (known_at kept q) (bytes_eq p q) (bytes_eq up q) refl refl
       (path_known i now p u.0 n.0 u.1 n.1 child here.kids known.kids)
       (subst (λ r. IsKnown (shrunk now i p) r left) (sym is_up) (parent_known i now p u.0 n.0 u.1 n.1 child over.kids m siblings_are shown))
       (λ e f. else_same i now p u.0 n.0 u.1 n.1 child q e (ap (λ r. bytes_eq r q) (sym is_up) ∙ f))

@@ -10,7 +10,10 @@ pub mod Ledgered
 pub mod Leaves
 pub mod Removals
 pub mod Drafted
+pub mod Places
+pub mod Telling
 pub mod Plans
+pub mod Multis
 pub mod Closed
 pub mod Carried
 pub mod Root

@@ -16,7 +16,6 @@ use Rattle.kp_model.specs.declared.reply.Reply.{Reply}
 use Rattle.kp_model.specs.declared.reply.Reply.TheVariants as reply
 use Rattle.kp_model.specs.declared.session.Origin.{Origin}
 use Rattle.kp_model.specs.declared.session.Session.{Session}
-use Rattle.kp_model.specs.Built.{is_built, is_built_cmd}
 use Rattle.kp_model.specs.declared.entry.Body.{Body}
 use Rattle.kp_model.specs.Errors.{session_expired, auth_failed, bad_arguments}
 use Rattle.kp_model.specs.Fixed.{fixed}
@@ -30,10 +29,11 @@ use Rattle.kp_prep.specs.declared.plan.Act.{Act}
 use Rattle.kp_prep.specs.declared.plan.Plan.{Plan}
 use Rattle.kp_prep.specs.declared.plan.Effect.{Effect}
 use Rattle.kp_prep.specs.declared.plan.Effect.TheVariants as effect
-use Rattle.kp_prep.specs.Effects.{IsOn, IsFit, FitsData, IsAct, DoesOn, TellsOwner, effected, path_of}
+use Rattle.kp_prep.specs.Effects.{IsOn, IsFit, FitsData, IsAct, DoesOn, TellsOwner, effected, path_of, is_on_node}
 use Rattle.kp_prep.specs.Plans.{IsPlan, answer_plan, opening_plan, session_plan, acting_plan}
 use Rattle.kp_prep.specs.Several.{effected_by, effected_nodes_by, TellOwners}
 use Rattle.kp_prep.specs.Touching.{is_one_of, IsEffectAmong}
+use Rattle.kp_prep.proofs.Telling.{fit_on}
 use Rattle.kp_prep.proofs.Within.{the_one, among_named}
 
 -- an answer alone
@@ -109,13 +109,6 @@ pub written_due : (k : Touched) (s : State) (i t id epoch seq : ℕ) (c : Cmd) (
 written_due k s i t id epoch seq c x p due h =
     subst (λ b. IsPlan k s (if not b then replies (record s { applied = i }) reply.Stale else act (record s { applied = i; sessions = map.insert s.sessions id (with_seq seq x) }) id x.ids i t c) p) (sym due) h
 
-fit_on : (path : List ℕ) (e : Effect) → IsOn path e → IsFit e
-fit_on path effect.Nothing h = tt
-fit_on path (effect.Make q bytes acl meta up) h = h.1
-fit_on path (effect.Remove q up owner) h = h.1
-fit_on path (effect.Set q bytes meta) h = h.1
-fit_on path (effect.SetAcl q acl meta) h = h.1
-
 parts_moved : (s : State) (i id : ℕ) (x : Session) (e : Effect) → effected (record (parts_of s) { sessions = map.insert (parts_of s).sessions id x; next = (parts_of s).next }) e ≡ effected (parts_of (record s { applied = i; sessions = map.insert s.sessions id x })) e
 unfolding parts_of
 parts_moved s i id x e = refl
@@ -189,29 +182,20 @@ shown_one s i t id seq x scheme auth made is =
     subst (λ y. IsPlan k s (replies (record z { sessions = y }) reply.Done) p) (sym (set_again s.sessions id (with_seq seq x) (with_id made (with_seq seq x))))
     (renewed_is k s i id (with_id made (with_seq seq x)) reply.Done (the_one id))))
 
--- a command that is no multi touches what it names
-touched_alone : (s : State) (i t id epoch seq : ℕ) (c : Cmd) → IsTrue (is_built_cmd c) → touched_at s i t (body.Write id epoch seq c) ≡ touched_in s id c
-touched_alone s i t id epoch seq (cmd.Create path bytes acl flags stat) h = refl
-touched_alone s i t id epoch seq (cmd.Delete path version) h = refl
-touched_alone s i t id epoch seq (cmd.SetData path bytes version) h = refl
-touched_alone s i t id epoch seq (cmd.SetAcl path acl version) h = refl
-touched_alone s i t id epoch seq (cmd.Check path version) h = refl
-touched_alone s i t id epoch seq (cmd.Sync path) h = refl
-touched_alone s i t id epoch seq (cmd.Auth scheme auth) h = refl
-touched_alone s i t id epoch seq (cmd.Multi ops) h = no false refl h
-touched_alone s i t id epoch seq cmd.CloseSession h = refl
-
-touched_named : (s : State) (i t : ℕ) (b : Body) → IsTrue (is_built b) → touched_at s i t b ≡ touched_by s b
-touched_named s i t body.Noop h = refl
-touched_named s i t (body.OpenSession timeout passwd origin) h = refl
-touched_named s i t (body.Attach id passwd origin) h = refl
-touched_named s i t (body.Expire id) h = refl
-touched_named s i t (body.Write id epoch seq c) h = touched_alone s i t id epoch seq c h
-
 -- the entry is taken at the index behind the applied one
-pub planned_entry : (s : State) (i : ℕ) (d e : LogEntry) (p : Plan) → s.applied + 1 ≡ i → d ≡ e → IsTrue (is_built e.body) → IsPlan (touched_by s d.body) s (take_body (record s { applied = i }) i d.time d.body) p → IsPlan (touched s e) s (apply s e) p
+pub planned_entry : (s : State) (i : ℕ) (d e : LogEntry) (p : Plan) → s.applied + 1 ≡ i → d ≡ e → IsPlan (touched_at s i d.time d.body) s (take_body (record s { applied = i }) i d.time d.body) p → IsPlan (touched s e) s (apply s e) p
 unfolding apply touched
-planned_entry s i d e p next same built h =
-    subst (λ z. IsPlan (touched s z) s (apply s z) p) same (
-    subst (λ k. IsPlan k s (apply s d) p) (sym (touched_named s (s.applied + 1) d.time d.body (subst (λ (z : LogEntry). IsTrue (is_built z.body)) (sym same) built)))
-    (subst (λ n. IsPlan (touched_by s d.body) s (take_body (record s { applied = n }) n d.time d.body) p) (sym next) h))
+planned_entry s i d e p next same h =
+    subst (λ z. IsPlan (touched s z) s (apply s z) p) same (subst (λ n. IsPlan (touched_at s n d.time d.body) s (take_body (record s { applied = n }) n d.time d.body) p) (sym next) h)
+
+-- what a command but a multi touches
+pub touched_named : (s : State) (i t id epoch seq : ℕ) (c : Cmd) → IsTrue (is_on_node c) → touched_at s i t (body.Write id epoch seq c) ≡ touched_in s id c
+touched_named s i t id epoch seq (cmd.Create path bytes acl flags stat) h = refl
+touched_named s i t id epoch seq (cmd.Delete path version) h = refl
+touched_named s i t id epoch seq (cmd.SetData path bytes version) h = refl
+touched_named s i t id epoch seq (cmd.SetAcl path acl version) h = refl
+touched_named s i t id epoch seq (cmd.Check path version) h = refl
+touched_named s i t id epoch seq (cmd.Sync path) h = refl
+touched_named s i t id epoch seq (cmd.Auth scheme auth) h = refl
+touched_named s i t id epoch seq (cmd.Multi ops) h = no false refl h
+touched_named s i t id epoch seq cmd.CloseSession h = refl

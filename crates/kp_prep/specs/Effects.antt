@@ -1,11 +1,9 @@
 -- What is found to be done, and what it does to the parts of a state.
-use Rattle.std.specs.Prelude.{◌≡◌, ℕ, Bool, true, false, ◌+◌, ◌==◌, min, List, [], ◌∷◌, length, Option, Some, None, IsTrue, if◌then◌else◌}
+use Rattle.std.specs.Prelude.{◌≡◌, ℕ, Bool, true, false, ◌+◌, ◌==◌, min, List, [], ◌∷◌, length, Option, Some, None, IsTrue, IsSome, if◌then◌else◌}
 use Rattle.std.specs.Str.{bytes_eq}
 use Rattle.std.specs.FinMap as map
 use Rattle.kp_model.specs.declared.node.Acl.{Acl}
 use Rattle.kp_model.specs.declared.node.Meta.{Meta}
-use Rattle.kp_model.specs.declared.command.Op.{Op}
-use Rattle.kp_model.specs.declared.command.Op.TheVariants as op
 use Rattle.kp_model.specs.declared.command.Cmd.{Cmd}
 use Rattle.kp_model.specs.declared.command.Cmd.TheVariants as cmd
 use Rattle.kp_model.specs.declared.reply.Event.TheVariants as event
@@ -195,13 +193,6 @@ IsOn q (effect.Remove path up owner) = (path ≡ q) × IsFamily path
 IsOn q (effect.Set path bytes meta) = (path ≡ q) × IsTrue (is_well_formed path)
 IsOn q (effect.SetAcl path acl meta) = (path ≡ q) × IsTrue (is_well_formed path)
 
--- the path that an operation names or makes
-abbrev pub path_of_op : Nodes → Op → List ℕ
-path_of_op nodes (op.Create path bytes acl flags stat) = made_path nodes path flags
-path_of_op nodes (op.Delete path version) = path
-path_of_op nodes (op.SetData path bytes version) = path
-path_of_op nodes (op.Check path version) = path
-
 -- the path that a command on one node names or makes
 abbrev pub path_of : Nodes → Cmd → List ℕ
 path_of nodes (cmd.Create path bytes acl flags stat) = made_path nodes path flags
@@ -226,6 +217,14 @@ is_on_node (cmd.Auth scheme auth) = false
 is_on_node (cmd.Multi ops) = false
 is_on_node cmd.CloseSession = false
 
+-- an effect makes a node at a free path, whose parent is there, or changes one that is there
+abbrev pub Suits : Nodes → Effect → Type 0
+Suits nodes effect.Nothing = Unit {0}
+Suits nodes (effect.Make path bytes acl meta up) = (map.get nodes path ≡ None) × IsSome (map.get nodes (parent path))
+Suits nodes (effect.Remove path up owner) = IsSome (map.get nodes path) × IsSome (map.get nodes (parent path))
+Suits nodes (effect.Set path bytes meta) = IsSome (map.get nodes path)
+Suits nodes (effect.SetAcl path acl meta) = IsSome (map.get nodes path)
+
 -- the act is what a command does that leads from a state to this outcome
 pub record IsAct (path : List ℕ) (s : State) (o : Outcome) (a : Act) : Type 0 where
   pub reply : a.prepared.reply ≡ o.reply
@@ -233,6 +232,7 @@ pub record IsAct (path : List ℕ) (s : State) (o : Outcome) (a : Act) : Type 0 
   pub parts : effected (parts_of s) a.effect ≡ parts_of o.state
   pub nodes : effected_nodes s.nodes a.effect ≡ o.state.nodes
   pub on : IsOn path a.effect
+  pub suits : Suits s.nodes a.effect
   pub owner : TellsOwner (parts_of s) a.effect
   pub fits : FitsData a.effect
 

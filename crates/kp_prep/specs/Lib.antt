@@ -6,5 +6,7 @@ pub mod Changing
 pub mod Several
 pub mod Ledgers
 pub mod Plans
+pub mod Multis
 pub mod Drafts
+pub mod Behind
 pub mod Closing

@@ -10,7 +10,8 @@ ghost use Rattle.kp_model.specs.State.{Nodes, meta_at, children};
 ghost use Rattle.kp_model.specs.Step.{unless, deleted, set, synced, replies, delete_fails, version_fails, set_acl_fails, owner_fails, rises};
 ghost use Rattle.kp_model.specs.Step as step;
 ghost use Rattle.kp_model.specs.declared.reply.Reply.TheVariants as reply;
-ghost use Rattle.kp_prep.specs.Effects.{DoesOn, IsChildPath, answered_act, gone_act, set_act, set_acl_act, path_of, path_of_op, is_on_node};
+ghost use Rattle.kp_model.specs.Touched.{path_of_op};
+ghost use Rattle.kp_prep.specs.Effects.{DoesOn, IsChildPath, answered_act, gone_act, set_act, set_acl_act, path_of, is_on_node};
 ghost use Rattle.kp_prep.specs.Looks.{HavePlaces};
 
 use crate::checks::{READ, WRITE, find, find_to_own, is_path, list_to_keep, may_remove};

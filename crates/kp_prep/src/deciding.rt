@@ -3,7 +3,6 @@
 ghost use Rattle.std.specs.Prelude.{◌≡◌, ◌+◌, ◌++◌, IfOk, OnOk, IsTrue};
 ghost use Rattle.std.specs.List.{All, list_all};
 ghost use Rattle.std.specs.FinMap as map;
-ghost use Rattle.kp_model.specs.Built.{is_built};
 ghost use Rattle.kp_model.specs.Good.{IsSound};
 ghost use Rattle.kp_model.specs.Path.{parent};
 ghost use Rattle.kp_model.specs.State.{State};
@@ -40,7 +39,6 @@ pub fn decide<V: View>(
 ) -> Result<Decided, NoMemory>
     requires sound { IsSound (V.state view.now) }
     requires next { (V.state view.now).applied + 1 ≡ index }
-    requires built { IsTrue (is_built entry.now.body) }
     ensures reply { IfOk result (λ d. d.prepared.reply ≡ (apply (V.state view.now) entry.now).reply) }
     ensures events { IfOk result (λ d. d.prepared.events ≡ (apply (V.state view.now) entry.now).events) }
     ensures changes { let s = V.state view.now in IfOk result (λ d. set_all s d.changes ≡ record (apply s entry.now).state { applied = s.applied }) }

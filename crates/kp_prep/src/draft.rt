@@ -195,8 +195,8 @@ fn without_child(index: u64, up: Meta, kids: u32) -> Meta
     }
 }
 
-// Keeps what is known of a path.
-fn note(alloc: Global, kept: &mut Kept, path: &str, known: Known) -> Result<(), NoMemory>
+/// Keeps what is known of a path.
+pub(crate) fn note(alloc: Global, kept: &mut Kept, path: &str, known: Known) -> Result<(), NoMemory>
     ensures { OnOk result ((p : List ℕ) → known_at kept.new.entries p ≡ cond (bytes_eq path.now p) (Some known) (known_at kept.old.entries p)) }
 {
     let path = String::from_str(alloc, path)?;

@@ -3,11 +3,10 @@
 ghost use Rattle.std.specs.Prelude.{◌≡◌, ◌+◌, ◌==◌, ◌&&◌, ℕ, Some, IfOk, IsTrue};
 ghost use Rattle.std.specs.FinMap as map;
 ghost use Rattle.kp_model.specs.Grammar.{fits_cmd};
-ghost use Rattle.kp_model.specs.Built.{is_built, is_built_cmd};
 ghost use Rattle.kp_model.specs.Good.{IsSound};
 ghost use Rattle.kp_model.specs.Step as step;
 ghost use Rattle.kp_model.specs.Step.{apply, expired, written_by, with_seq};
-ghost use Rattle.kp_model.specs.Touched.{touched, touched_by, touched_in};
+ghost use Rattle.kp_model.specs.Touched.{touched, touched_by, touched_at};
 ghost use Rattle.kp_model.specs.declared.entry.Body.TheVariants as body;
 ghost use Rattle.kp_prep.specs.Effects.{is_on_node};
 ghost use Rattle.kp_prep.specs.Plans.{IsPlan, acting_plan};
@@ -15,6 +14,7 @@ ghost use Rattle.kp_prep.specs.Plans.{IsPlan, acting_plan};
 use crate::act::act;
 use crate::closing::close;
 use crate::look::OfView;
+use crate::multi::multi;
 use crate::plan::{Act, Effects, Plan, Stamp};
 use crate::session::{answer, attach, open, show};
 use kp_model::errors::SESSION_EXPIRED;
@@ -30,7 +30,6 @@ pub(crate) fn plan<V: View>(
 ) -> Result<Plan, NoMemory>
     requires sound { IsSound (V.state view.now) }
     requires next { (V.state view.now).applied + 1 ≡ index }
-    requires built { IsTrue (is_built entry.now.body) }
     ensures { IfOk result (IsPlan (touched (V.state view.now) entry.now) (V.state view.now) (apply (V.state view.now) entry.now)) }
 {
     let stamp = Stamp {
@@ -82,8 +81,7 @@ fn write<V: View>(
 ) -> Result<Plan, NoMemory>
     requires sound { IsSound (V.state view.now) }
     requires fits { IsTrue (fits_cmd cmd.now) }
-    requires built { IsTrue (is_built_cmd cmd.now) }
-    ensures { let s = V.state view.now in IfOk result (IsPlan (touched_in s id cmd.now) s (written_by (map.get s.sessions id) (record s { applied = stamp.index }) stamp.index stamp.time id epoch seq cmd.now)) }
+    ensures { let s = V.state view.now in IfOk result (IsPlan (touched_at s stamp.index stamp.time (body.Write id epoch seq cmd.now)) s (written_by (map.get s.sessions id) (record s { applied = stamp.index }) stamp.index stamp.time id epoch seq cmd.now)) }
 {
     match view.session(id) {
         None => Ok(answer(alloc, Reply::Err(SESSION_EXPIRED))),
@@ -104,9 +102,8 @@ fn write_of<V: View>(
 ) -> Result<Plan, NoMemory>
     requires sound { IsSound (V.state view.now) }
     requires fits { IsTrue (fits_cmd cmd.now) }
-    requires built { IsTrue (is_built_cmd cmd.now) }
     requires live { Some session.now ≡ map.get (V.state view.now).sessions id }
-    ensures { let s = V.state view.now in IfOk result (IsPlan (touched_in s id cmd.now) s (written_by (Some session.now) (record s { applied = stamp.index }) stamp.index stamp.time id epoch seq cmd.now)) }
+    ensures { let s = V.state view.now in IfOk result (IsPlan (touched_at s stamp.index stamp.time (body.Write id epoch seq cmd.now)) s (written_by (Some session.now) (record s { applied = stamp.index }) stamp.index stamp.time id epoch seq cmd.now)) }
 {
     let due = is_due(session, epoch, seq);
     if due {
@@ -142,13 +139,13 @@ fn acted<V: View>(
 ) -> Result<Plan, NoMemory>
     requires sound { IsSound (V.state view.now) }
     requires fits { IsTrue (fits_cmd cmd.now) }
-    requires built { IsTrue (is_built_cmd cmd.now) }
     requires live { Some session.now ≡ map.get (V.state view.now).sessions id }
-    ensures { let s = V.state view.now in IfOk result (IsPlan (touched_in s id cmd.now) s (step.act (record s { applied = stamp.index; sessions = map.insert s.sessions id (with_seq seq session.now) }) id session.now.ids stamp.index stamp.time cmd.now)) }
+    ensures { let s = V.state view.now in (epoch : ℕ) → IfOk result (IsPlan (touched_at s stamp.index stamp.time (body.Write id epoch seq cmd.now)) s (step.act (record s { applied = stamp.index; sessions = map.insert s.sessions id (with_seq seq session.now) }) id session.now.ids stamp.index stamp.time cmd.now)) }
 {
     match cmd {
         Cmd::Auth { scheme, auth } => show(alloc, id, session, seq, scheme, auth),
         Cmd::CloseSession => close(alloc, view, stamp.index, id),
+        Cmd::Multi { ops } => multi(alloc, view, stamp, id, session, seq, ops),
         _ => acted_on_node(alloc, view, stamp, id, session, seq, cmd),
     }
 }
@@ -166,7 +163,7 @@ fn acted_on_node<V: View>(
     requires sound { IsSound (V.state view.now) }
     requires fits { IsTrue (fits_cmd cmd.now) }
     requires node { IsTrue (is_on_node cmd.now) }
-    ensures { let s = V.state view.now in IfOk result (IsPlan (touched_in s id cmd.now) s (step.act (record s { applied = stamp.index; sessions = map.insert s.sessions id (with_seq seq session.now) }) id session.now.ids stamp.index stamp.time cmd.now)) }
+    ensures { let s = V.state view.now in (epoch : ℕ) → IfOk result (IsPlan (touched_at s stamp.index stamp.time (body.Write id epoch seq cmd.now)) s (step.act (record s { applied = stamp.index; sessions = map.insert s.sessions id (with_seq seq session.now) }) id session.now.ids stamp.index stamp.time cmd.now)) }
 {
     match act(alloc, &OfView { view }, id, &session.ids, stamp, cmd) {
         Err(refused) => Err(refused),

@@ -75,11 +75,7 @@ fn insert(places: &mut Places, path: String, place: usize) -> Result<(), NoMemor
 }
 
 /// The data of a node behind the changes; None exactly where there is no such node.
-pub(crate) fn content<'a, V: View>(
-    view: &'a V,
-    ledger: &'a Ledger,
-    path: &str,
-) -> Option<&'a [u8]>
+pub(crate) fn content<'a, V: View>(view: &'a V, ledger: &'a Ledger, path: &str) -> Option<&'a [u8]>
     requires { IsLedger (V.state view.now) ledger.now.changes ledger.now.places.entries }
     ensures { option_copied result ≡ bytes_at (nodes_behind (V.state view.now) ledger.now.changes) path.now }
 {

@@ -2,6 +2,7 @@
 #![tactic(auto)]
 
 mod act;
+mod behind;
 mod checks;
 mod closing;
 mod creation;
@@ -10,6 +11,7 @@ mod draft;
 mod entry;
 mod ledger;
 mod look;
+mod multi;
 mod plan;
 mod preparing;
 mod session;

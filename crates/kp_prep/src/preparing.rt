@@ -1,5 +1,4 @@
-ghost use Rattle.std.specs.Prelude.{◌≡◌, ◌+◌, IfOk, OnOk, OnErr, IsTrue};
-ghost use Rattle.kp_model.specs.Built.{is_built};
+ghost use Rattle.std.specs.Prelude.{◌≡◌, ◌+◌, IfOk, OnOk, OnErr};
 ghost use Rattle.kp_model.specs.Good.{IsSound};
 ghost use Rattle.kp_model.specs.Step.{apply};
 ghost use Rattle.kp_model.specs.Touched.{touched};
@@ -27,7 +26,6 @@ pub fn prepare(
     requires fits { FitTogether (latest_parts cells.old) }
     requires sound { IsSound (latest_state cells.old) }
     requires next { (latest_state cells.old).applied + 1 ≡ index }
-    requires built { IsTrue (is_built entry.now.body) }
     ensures reply { IfOk result (λ p. p.reply ≡ (apply (latest_state cells.old) entry.now).reply) }
     ensures events { IfOk result (λ p. p.events ≡ (apply (latest_state cells.old) entry.now).events) }
     ensures stands { OnOk result (latest_parts cells.new ≡ parts_of (apply (latest_state cells.old) entry.now).state) }

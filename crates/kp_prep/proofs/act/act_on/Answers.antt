@@ -1,7 +1,8 @@
 use Rattle.std.proofs.Common.{sym, subst}
 use Rattle.std.specs.Prelude.{IfOk}
 use Rattle.kp_model.specs.Step as step
-use Rattle.kp_prep.specs.Effects.{DoesOn, path_of_op}
+use Rattle.kp_model.specs.Touched.{path_of_op}
+use Rattle.kp_prep.specs.Effects.{DoesOn}
 use Rattle.kp_prep.proofs.act.act_on.Goals as goal
 
 pub returns-in-Create : goal.returns-in-Create

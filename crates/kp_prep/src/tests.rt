@@ -1,5 +1,4 @@
 ghost use Rattle.std.specs.Prelude.{◌≡◌, IfOk, IsTrue};
-ghost use Rattle.kp_model.specs.Built.{is_built};
 ghost use Rattle.kp_model.specs.Good.{IsSound};
 ghost use Rattle.kp_cells.specs.Overlays.{all_begun, latest_parts, latest_state};
 ghost use Rattle.kp_cells.specs.Parts.{FitTogether};
@@ -11,9 +10,7 @@ use std::alloc::Global;
 use std::test::Fail;
 
 // The opening of the first session.
-fn open() -> Entry
-    ensures { IsTrue (is_built result.body) }
-{
+fn open() -> Entry {
     Entry {
         term: 1,
         time: 0,
@@ -30,9 +27,7 @@ fn open() -> Entry
 }
 
 // The session is taken over.
-fn attach() -> Entry
-    ensures { IsTrue (is_built result.body) }
-{
+fn attach() -> Entry {
     Entry {
         term: 1,
         time: 0,
@@ -49,9 +44,7 @@ fn attach() -> Entry
 }
 
 // The session ends.
-fn expire() -> Entry
-    ensures { IsTrue (is_built result.body) }
-{
+fn expire() -> Entry {
     Entry {
         term: 1,
         time: 0,
@@ -81,9 +74,7 @@ fn begun(alloc: Global) -> Result<Cells, NoMemory>
 }
 
 // What the first entry is answered, where its changes are staged.
-fn prepared(alloc: Global, entry: &Entry) -> Result<Prepared, NoMemory>
-    requires { IsTrue (is_built entry.now.body) }
-{
+fn prepared(alloc: Global, entry: &Entry) -> Result<Prepared, NoMemory> {
     let mut cells = begun(alloc)?;
     prepare(alloc, &mut cells, 1, entry)
 }
@@ -93,7 +84,6 @@ fn decided(alloc: Global, cells: &Cells, entry: &Entry) -> Result<Decided, NoMem
     requires fits { FitTogether (latest_parts cells.now) }
     requires sound { IsSound (latest_state cells.now) }
     requires next { (latest_state cells.now).applied ≡ 0 }
-    requires built { IsTrue (is_built entry.now.body) }
 {
     decide(alloc, &cells.latest(), 1, entry)
 }

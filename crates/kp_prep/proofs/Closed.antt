@@ -3,10 +3,10 @@ use Rattle.std.proofs.Common.{◌≡◌, ℕ, List, refl, ap, sym, subst, ◌∙
 use Rattle.std.specs.Prelude.{Result, IfOk}
 use Rattle.std.specs.FinMap as fin
 use Rattle.kp_model.specs.declared.command.Cmd.TheVariants as cmd
-use Rattle.kp_model.specs.State.{State, Nodes, Sessions, owned}
+use Rattle.kp_model.specs.State.{State, Sessions, owned}
 use Rattle.kp_model.specs.Step.{act, closed, shrunk_by}
 use Rattle.kp_model.specs.Touched.{touched_in, with_parents}
-use Rattle.kp_cells.specs.Parts.{Parts, parts_of}
+use Rattle.kp_cells.specs.Parts.{parts_of}
 use Rattle.kp_prep.specs.declared.plan.Plan.{Plan}
 use Rattle.kp_prep.specs.Closing.{AreLeaves, closing_plan}
 use Rattle.kp_prep.specs.Plans.{IsPlan}

@@ -7,14 +7,13 @@ use Rattle.std.specs.Str.{bytes_eq}
 use Rattle.std.specs.FinMap as map
 use Rattle.std.proofs.lemmas.Cmp.{tied_itself}
 use Rattle.std.proofs.lemmas.Slice.Eq.{bytes_eq-Decides}
-use Rattle.kp_model.specs.declared.node.Acl.{Acl}
 use Rattle.kp_model.specs.declared.node.Node.{Node}
 use Rattle.kp_model.specs.State.{State, Nodes, path_cmp, bytes_at, acl_at}
 use Rattle.kp_cells.specs.declared.change.Change.{Change}
 use Rattle.kp_cells.specs.declared.change.Change.TheVariants as change
 use Rattle.kp_cells.specs.declared.change.NodeValue.{NodeValue}
 use Rattle.kp_cells.proofs.Maps.{no, not_some, tied}
-use Rattle.kp_prep.specs.Changing.{node_set, set_one, set_all}
+use Rattle.kp_prep.specs.Changing.{node_set, set_all}
 use Rattle.kp_prep.specs.Ledgers.{nodes_behind, node_from, value_in, IsLast, IsPlaced, place_of, IsLedger}
 use Rattle.kp_prep.proofs.Changes.{set_append}
 use Rattle.kp_prep.proofs.Paths.{path_total, path_same}

@@ -1,38 +1,30 @@
 -- The removals of the nodes that a session owns.
-use Rattle.std.proofs.Common.{◌≡◌, ℕ, zero, suc, ◌+◌, ◌-◌, ◌<◌, arith, take, Bool, true, false, not, cond, ◌||◌, List, [], ◌∷◌, ◌++◌, length, min, Option, Some, None, refl, ap, sym, subst, ◌∙◌}
+use Rattle.std.proofs.Common.{◌≡◌, ℕ, zero, suc, ◌+◌, ◌-◌, ◌<◌, arith, take, Bool, true, false, ◌||◌, List, [], ◌∷◌, ◌++◌, length, min, Some, refl, ap, sym, subst, ◌∙◌}
 use Rattle.std.proofs.Math.ListN.{get_or}
-use Rattle.std.specs.Prelude.{◌==◌, map, unwrap_or, IsTrue}
-use Rattle.std.specs.List.{All, AllByRecursion, flat_map, list_any}
-use Rattle.std.specs.Ordering.{eq_by_cmp}
+use Rattle.std.specs.Prelude.{map, unwrap_or, IsTrue}
+use Rattle.std.specs.List.{All, AllByRecursion}
 use Rattle.std.specs.Str.{bytes_eq}
 use Rattle.std.specs.FinMap as fin
-use Rattle.std.proofs.lemmas.List.Concat.{flat_map-cons}
 use Rattle.std.proofs.lemmas.List.Elements.{All-nil, All-cons}
 use Rattle.std.proofs.lemmas.List.Folds.{list_any-append}
 use Rattle.std.proofs.lemmas.Slice.Eq.{bytes_eq-Decides}
-use Rattle.kp_model.specs.declared.node.Meta.{Meta}
 use Rattle.kp_model.specs.declared.node.Node.{Node}
-use Rattle.kp_model.specs.Path.{root, parent}
+use Rattle.kp_model.specs.Path.{parent}
 use Rattle.kp_model.specs.Poured.{node_of}
-use Rattle.kp_model.specs.State.{State, Nodes, path_cmp, blank_node, children, meta_at, meta_of, stat}
+use Rattle.kp_model.specs.State.{State, Nodes, blank_node, children, meta_of}
 use Rattle.kp_model.specs.Step.{changed, shrunk, shrunk_by, without_child}
 use Rattle.kp_model.specs.Touched.{with_parents}
 use Rattle.kp_cells.specs.Parts.{parts_of}
-use Rattle.kp_cells.specs.declared.change.Change.{Change}
-use Rattle.kp_cells.specs.declared.change.Change.TheVariants as change
-use Rattle.kp_cells.proofs.Maps.{tied}
 use Rattle.kp_prep.specs.declared.plan.Effect.{Effect}
 use Rattle.kp_prep.specs.declared.plan.Effect.TheVariants as effect
-use Rattle.kp_prep.specs.Changing.{renumbered_value, node_changes, effect_changes}
 use Rattle.kp_prep.specs.Closing.{IsLeaf, AreLeaves}
 use Rattle.kp_prep.specs.Drafts.{up_left, removal, removals}
 use Rattle.kp_prep.specs.Effects.{OwnerIs, IsFit, FitsData, effected, effected_nodes, without_child_shown}
-use Rattle.kp_prep.specs.Several.{effected_by, effected_nodes_by, effects_changes, TellOwners}
+use Rattle.kp_prep.specs.Several.{effected_by, effected_nodes_by, TellOwners}
 use Rattle.kp_prep.specs.Touching.{is_among, IsFamilyAmong, IsEffectAmong}
 use Rattle.kp_prep.proofs.Acts.{owner_told}
-use Rattle.kp_prep.proofs.Leaves.{shrunk_is, get-shrunk, up_apart, leaves_left}
+use Rattle.kp_prep.proofs.Leaves.{shrunk_is, leaves_left}
 use Rattle.kp_prep.proofs.Outcomes.{stat-count, parts-gone}
-use Rattle.kp_prep.proofs.Paths.{path_same}
 use Rattle.kp_prep.proofs.Seen.{meta_there}
 
 -- the shown numbers of the parent that is left

@@ -1,15 +1,13 @@
 //! The nodes behind the operations of a multi that are done, known without a tree of their own.
 
-ghost use Rattle.std.specs.Prelude.{◌≡◌, ◌+◌, ◌-◌, ◌++◌, [], ◌∷◌, Some, None, List, ℕ, cond, string_bytes, IfOk, OnOk};
+ghost use Rattle.std.specs.Prelude.{◌≡◌, ◌+◌, ◌-◌, ◌++◌, [], ◌∷◌, Some, None, string_bytes, IfOk, OnOk};
 ghost use Rattle.std.specs.Option.{option_copied, option_map};
-ghost use Rattle.std.specs.Str.{bytes_eq};
 ghost use Rattle.kp_model.specs.Path.{parent};
-ghost use Rattle.kp_model.specs.State.{Nodes, meta_at, acl_at};
-ghost use Rattle.kp_prep.specs.Behind.{IsBehind, Tells, Notes, NotesOne, Lists, brood, list_at};
-ghost use Rattle.kp_prep.specs.Drafts.{IsDraft, known_at};
+ghost use Rattle.kp_model.specs.State.{meta_at, acl_at};
+ghost use Rattle.kp_prep.specs.Behind.{IsBehind, Tells, Notes, NotesOne, Lists, brood};
+ghost use Rattle.kp_prep.specs.Drafts.{IsDraft};
 ghost use Rattle.kp_prep.specs.Effects.{IsChildPath, IsFit};
 ghost use Rattle.kp_prep.specs.Several.{effected_nodes_by};
-ghost use Rattle.kp_prep.specs.declared.plan.Effect.TheVariants as effect;
 
 use crate::draft::{Draft, Known, look, note};
 use crate::look::Look;

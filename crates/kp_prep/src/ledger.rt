@@ -1,7 +1,6 @@
 //! Changes as they are told, and the nodes behind them, known without a tree of their own.
 
-ghost use Rattle.std.specs.Prelude.{◌≡◌, ◌++◌, [], ◌∷◌, List, ℕ, Some, cond, length, slice_get, string_bytes, OnOk, option_copied};
-ghost use Rattle.std.specs.Option.{option_and_then};
+ghost use Rattle.std.specs.Prelude.{◌≡◌, ◌++◌, [], ◌∷◌, List, ℕ, Some, cond, slice_get, string_bytes, OnOk, option_copied};
 ghost use Rattle.std.specs.Str.{bytes_eq};
 ghost use Rattle.kp_model.specs.State.{State, bytes_at, acl_at};
 ghost use Rattle.kp_cells.specs.declared.change.Change.TheVariants as change;

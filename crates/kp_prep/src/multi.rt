@@ -1,6 +1,6 @@
 //! What a multi does: all of its operations, each on the nodes behind those before it, or nothing where one fails.
 
-ghost use Rattle.std.specs.Prelude.{◌≡◌, ◌+◌, ◌-◌, ◌++◌, [], ◌∷◌, ℕ, ℤ, Some, None, length, replicate, pos, negsuc, IfOk, OnOk, IsTrue, MatchResult};
+ghost use Rattle.std.specs.Prelude.{◌≡◌, ◌-◌, ◌++◌, [], ℕ, Some, None, replicate, IfOk, OnOk, IsTrue, MatchResult};
 ghost use Rattle.std.specs.List.{list_all};
 ghost use Rattle.std.specs.FinMap as map;
 ghost use Rattle.kp_model.specs.Good.{IsSound};
@@ -11,19 +11,18 @@ ghost use Rattle.kp_model.specs.Step as step;
 ghost use Rattle.kp_model.specs.Touched.{path_of_op, touched_at};
 ghost use Rattle.kp_model.specs.declared.command.Cmd.TheVariants as cmd;
 ghost use Rattle.kp_model.specs.declared.entry.Body.TheVariants as body;
-ghost use Rattle.kp_model.specs.declared.reply.Reply.TheVariants as reply;
 ghost use Rattle.kp_prep.specs.Behind.{IsBehind, Tells};
-ghost use Rattle.kp_prep.specs.Effects.{DoesOn, IsFit};
+ghost use Rattle.kp_prep.specs.Effects.{IsFit};
 ghost use Rattle.kp_prep.specs.Looks.{HavePlaces};
 ghost use Rattle.kp_prep.specs.Multis.{Adds, IsStep, IsEnd, multi_plan};
 ghost use Rattle.kp_prep.specs.Plans.{IsPlan, session_plan};
 ghost use Rattle.kp_prep.specs.Several.{effected_nodes_by};
 
 use crate::act::act_on;
-use crate::behind::{Relisted, add, look_behind};
+use crate::behind::{add, look_behind};
 use crate::draft::{Draft, blank};
 use crate::plan::{Act, Effects, Plan, Prepared, Stamp};
-use kp_model::{Events, Items, NoMemory, Op, OpReply, Ops, Paths, Reply, Session, View};
+use kp_model::{Acls, Events, Items, NoMemory, Op, OpReply, Ops, Paths, Reply, Session, View};
 use std::alloc::Global;
 use std::collections::HashMap;
 
@@ -31,7 +30,7 @@ use std::collections::HashMap;
 #[derive(Drop)]
 pub struct Progress {
     pub draft: Draft,
-    pub lists: HashMap<String, Option<kp_model::Acls>>,
+    pub lists: HashMap<String, Option<Acls>>,
     pub answers: Items<OpReply>,
     pub events: Events,
 }

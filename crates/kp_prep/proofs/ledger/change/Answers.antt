@@ -1,4 +1,4 @@
-use Rattle.std.proofs.Common.{Some, cond, ap, ◌∙◌}
+use Rattle.std.proofs.Common.{Some, cond, ◌∙◌}
 use Rattle.std.specs.Str.{bytes_eq}
 use Rattle.kp_prep.specs.Ledgers.{place_of}
 use Rattle.kp_prep.proofs.Ledgered.{on_ok_then, ledger_more}

@@ -70,6 +70,40 @@ const ROWS: [Row; 11] = [
     },
 ];
 
+/// Runs with sessions, access lists, ephemeral and numbered nodes, and multis.
+const SESSION_ROWS: [Row; 6] = [
+    Row {
+        lines: "open 30000 00000000000000000000000000000000\ncreate 1 /a 2 -\ncreate 1 /a0000000000/b 0 -\npeek /\ntruncate 1\npeek /\nwho 1\ncreate 1 /a 2 -\n",
+        output: "pre 1 ok session=1\npre 2 ok path=/a0000000000\npre 3 ok path=/a0000000000/b\npeek - cz=0 mz=0 pz=2 ct=0 mt=0 v=0 cv=1 av=0 own=0 len=0 kids=1\ncut 1\npeek - cz=0 mz=0 pz=0 ct=0 mt=0 v=0 cv=0 av=0 own=0 len=0 kids=0\nwho timeout=30000 epoch=1 seq=0 ids=0\npre 2 ok path=/a0000000000\n",
+        status: "0 Done",
+    },
+    Row {
+        lines: "open 30000 00000000000000000000000000000000\nmulti 1 create /m 0 - ; set /m 01 -1 ; check /none -1\npeek /m\nmulti 1\nwho 1\n",
+        output: "pre 1 ok session=1\npre 2 fail 3: err=0 | err=0 | err=-101\npeek none\npre 3 multi 0:\nwho timeout=30000 epoch=1 seq=2 ids=0\n",
+        status: "0 Done",
+    },
+    Row {
+        lines: "open 30000 00000000000000000000000000000000\ncreate 1 /e 1 -\ncommit\ncommit\ncreate 1 /f 1 -\nclose 1\npeek /e\npeek /\ntruncate 3\npeek /\n",
+        output: "pre 1 ok session=1\npre 2 ok path=/e\ndone 1 ok session=1\ndone 2 ok path=/e\npre 3 ok path=/f\npre 4 ok\npeek none\npeek - cz=0 mz=0 pz=4 ct=0 mt=0 v=0 cv=4 av=0 own=0 len=0 kids=0\ncut 3\npeek - cz=0 mz=0 pz=3 ct=0 mt=0 v=0 cv=2 av=0 own=0 len=0 kids=2\n",
+        status: "0 Done",
+    },
+    Row {
+        lines: "open 30000 00000000000000000000000000000000\nraw 1 1 2 sync /\nraw 1 1 1 sync /\nraw 1 1 1 sync /\nclose 2\ncreate 1 /e 1 -\ncreate 1 /e/x 0 -\ncreate 1 bad 0 -\ncreate 1 /z 0 - noacl\n",
+        output: "pre 1 ok session=1\npre 2 stale\npre 3 ok path=/\npre 4 stale\npre 5 err=-112\npre 6 ok path=/e\npre 7 err=-108\npre 8 err=-8\npre 9 err=-114\n",
+        status: "0 Done",
+    },
+    Row {
+        lines: "open 30000 00000000000000000000000000000000\nauth 1 digest 73757065723a61646d696e\ncreate 1 /d 0 - 31:auth:\nacl /d\nopen 30000 00000000000000000000000000000000\nset 2 /d 01 -1\nauth 1 ip 00\n",
+        output: "pre 1 ok session=1\npre 2 ok\npre 3 ok path=/d\nacl 1 31:digest:super:xQJmxLMiHGwaqBvst5y6rkB6HQs=\npre 4 ok session=2\npre 5 err=-102\npre 6 err=-115\n",
+        status: "0 Done",
+    },
+    Row {
+        lines: "open 30000 00000000000000000000000000000000\nattach 1 00000000000000000000000000000000\nraw 1 1 1 sync /\nattach 1 00000000000000000000000000000001\nsync 1 /\nexpire 1\nexpire 1\ntruncate 5\nwho 1\n",
+        output: "pre 1 ok session=1\npre 2 ok epoch=2\npre 3 stale\npre 4 err=-112\npre 5 ok path=/\npre 6 ok\npre 7 stale\ncut 5\nwho timeout=30000 epoch=2 seq=1 ids=0\n",
+        status: "0 Done",
+    },
+];
+
 /// The number and the name of the status in which these words end, over this input and output.
 fn end_of<S: Source, W: Sink>(
     alloc: Global,
@@ -104,6 +138,19 @@ fn lines_print_their_transcript(rt: HostRuntime) -> Result<(), Fail> {
             assert_eq!(rt; status.as_str(), row.status, "{}", row.lines);
             assert_eq!(rt; output.bytes(), row.output.as_bytes(), "{}", row.lines);
         }
+    }
+    Ok(())
+}
+
+#[test]
+fn sessions_print_their_transcript(rt: HostRuntime) -> Result<(), Fail> {
+    let alloc = rt.alloc();
+    for row in &SESSION_ROWS {
+        let mut input = source(alloc, row.lines, 4096)?;
+        let mut output = MemorySink::new(alloc, 4096);
+        let status = end_of(alloc, "store", &mut input, &mut output)?;
+        assert_eq!(rt; status.as_str(), row.status, "{}", row.lines);
+        assert_eq!(rt; output.bytes(), row.output.as_bytes(), "{}", row.lines);
     }
     Ok(())
 }

@@ -3,5 +3,7 @@
 #![tactic(auto)]
 
 mod storage;
+#[cfg(test)]
+mod tests;
 
 pub use storage::Storage;

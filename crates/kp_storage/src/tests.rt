@@ -1,6 +1,5 @@
 //! With ample memory each call of the storage, on short stories whose n-th entry has the time 10 n.
 ghost use Rattle.std.specs.Prelude.{◌≡◌, ◌≤◌, IsTrue};
-ghost use Rattle.kp_model.specs.Built.{is_built, is_built_cmd};
 ghost use Rattle.kp_model.specs.Grammar.{is_body};
 
 use crate::Storage;
@@ -42,9 +41,7 @@ fn origin(conn: u64) -> Origin
 }
 
 // Adds an entry to a storage that has room for it.
-fn put(storage: &mut Storage, entry: &Entry) -> Result<(), NoMemory>
-    requires { IsTrue (is_built entry.now.body) }
-{
+fn put(storage: &mut Storage, entry: &Entry) -> Result<(), NoMemory> {
     if storage.last() < MANY {
         storage.preprocess(entry)?;
     }
@@ -54,7 +51,6 @@ fn put(storage: &mut Storage, entry: &Entry) -> Result<(), NoMemory>
 // Adds an entry of this body.
 fn enter(storage: &mut Storage, body: Body) -> Result<(), NoMemory>
     requires numbers { IsTrue (is_body body) }
-    requires built { IsTrue (is_built body) }
 {
     let index = storage.last().min(MANY) + 1;
     let entry = Entry::new(1, 10 * index, body)?;
@@ -99,7 +95,6 @@ fn expire(storage: &mut Storage) -> Result<(), NoMemory> {
 fn write(storage: &mut Storage, session: u64, seq: u64, cmd: Cmd) -> Result<(), NoMemory>
     requires session { session ≤ 100 }
     requires seq { seq ≤ 100 }
-    requires built { IsTrue (is_built_cmd cmd) }
 {
     enter(
         storage,

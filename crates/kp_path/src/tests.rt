@@ -43,7 +43,13 @@ fn a_running_number_has_ten_digits(rt: HostRuntime) {
 
 #[test]
 fn the_parent_of_a_node_with_a_running_number(rt: HostRuntime) {
-    let expected = [("/a", "/"), ("/a/", "/a"), ("/", "/"), ("/a/b", "/a"), ("", "/")];
+    let expected = [
+        ("/a", "/"),
+        ("/a/", "/a"),
+        ("/", "/"),
+        ("/a/b", "/a"),
+        ("", "/"),
+    ];
     for (path, up) in expected {
         assert_eq!(rt; sequence_parent(path), up);
     }

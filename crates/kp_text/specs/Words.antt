@@ -15,11 +15,6 @@ is_empty (b ∷ bs) = false
 abbrev pub is_space : ℕ → Bool
 is_space b = b == 32
 
--- a text that begins with a space
-abbrev pub is_spaced : List ℕ → Bool
-is_spaced [] = false
-is_spaced (b ∷ bs) = is_space b
-
 -- the words of a line: what single spaces part
 unfoldable pub words_of : List ℕ → List (List ℕ)
 words_of line = slice_split is_space line

@@ -1,4 +1,5 @@
-//! The languages and the texts: lines are read from bytes, and replies and looks are printed.
+//! The languages and the texts: lines are read from bytes, and replies and looks are printed. A print call appends a
+//! whole text, or nothing where memory runs out.
 #![tactic(auto)]
 
 mod acl;

@@ -1,5 +1,4 @@
 ghost use Rattle.std.specs.Prelude.{◌≡◌, ◌↔◌, map, Err, Some, None, IfOk, IsTrue};
-ghost use Rattle.kp_text.specs.Words.{is_spaced};
 ghost use Rattle.kp_text.specs.Spelling.{is_line, spelled};
 ghost use Rattle.kp_text.specs.Lines.{one_number as one_number_in, one_path as one_path_in, is_numbered as numbered_name, numbered as numbered_in, numbered_line as number_line_in, is_look as look_name, look_at as looks, look_line as look_line_in, bare as bare_in, open_line as opens, attach_line as attaches, raw_line as raws, write_line as writes, entry_line as enters, of_name as named, of_words as of, line_of};
 
@@ -307,24 +306,11 @@ fn of_words(alloc: Global, words: &[&str]) -> Result<Option<StoreLine>, NoMemory
     }
 }
 
-/// Whether a text begins with a space. No line does, and a text of many spaces is many empty words.
-fn begins_with_space(text: &[u8]) -> bool
-    ensures { result ≡ is_spaced text.now }
-{
-    match text {
-        [] => false,
-        [first, ..] => *first == b' ',
-    }
-}
-
 /// The line that a text is, where it is one.
 #[tactic(auto, unfolding(crate::specs::Lines::line_of))]
 fn line_in(alloc: Global, text: &[u8]) -> Result<Option<StoreLine>, NoMemory>
     ensures { IfOk result (λ o. o ≡ line_of text.now) }
 {
-    if begins_with_space(text) {
-        return Ok(None);
-    }
     match str::from_utf8(text) {
         Err(_) => Ok(None),
         Ok(line) => {

@@ -1,16 +1,25 @@
-ghost use Rattle.std.specs.Prelude.{◌≡◌, ◌++◌, length, map, OnOk, codes};
+//! What is printed. Without memory a public call appends nothing; those below it may leave a beginning of their text.
+ghost use Rattle.std.specs.Prelude.{◌≡◌, ◌++◌, length, map, OnOk, OnErr, codes};
 ghost use Rattle.std.specs.Fmt.{decimal};
 ghost use Rattle.kp_text.specs.Texts.{data_text, stat_text, indexes_text, times_text, versions_text, sizes_text, reply_text, names_text, acls_text, session_text, op_reply_text, error_text, further_text, parts_text};
 ghost use Rattle.kp_text.specs.Spelling.{spelled_acl};
 
 use kp_model::{Acl, Meta, NoMemory, OpReply, Reply, Session, Text};
 
+fn append(bytes: &[u8], out: &mut Vec<u8>) -> Result<(), NoMemory>
+    ensures ok { OnOk result (out.new.items ≡ out.old.items ++ bytes.now) }
+    ensures err { OnErr result (out.new.items ≡ out.old.items) }
+{
+    out.extend_from_slice(bytes)?;
+    Ok(())
+}
+
 /// Appends a text as it is.
 pub fn print_text(text: &str, out: &mut Vec<u8>) -> Result<(), NoMemory>
-    ensures { OnOk result (out.new.items ≡ out.old.items ++ text.now) }
+    ensures ok { OnOk result (out.new.items ≡ out.old.items ++ text.now) }
+    ensures err { OnErr result (out.new.items ≡ out.old.items) }
 {
-    out.extend_from_slice(text.as_bytes())?;
-    Ok(())
+    append(text.as_bytes(), out)
 }
 
 fn print_indexes(cz: u64, mz: u64, pz: u64, out: &mut Vec<u8>) -> Result<(), NoMemory>
@@ -41,9 +50,8 @@ fn print_sizes(own: u64, len: u32, kids: u32, out: &mut Vec<u8>) -> Result<(), N
     print_text(text.as_str(), out)
 }
 
-/// Appends the numbers of a node, from `cz=` to `kids=`.
 #[tactic(auto, unfolding(crate::specs::Texts::stat_text))]
-pub fn print_stat(meta: &Meta, out: &mut Vec<u8>) -> Result<(), NoMemory>
+fn write_stat(meta: &Meta, out: &mut Vec<u8>) -> Result<(), NoMemory>
     ensures { OnOk result (out.new.items ≡ out.old.items ++ stat_text meta.now) }
 {
     print_indexes(meta.czxid, meta.mzxid, meta.pzxid, out)?;
@@ -52,10 +60,21 @@ pub fn print_stat(meta: &Meta, out: &mut Vec<u8>) -> Result<(), NoMemory>
     print_sizes(meta.owner, meta.len, meta.kids, out)
 }
 
+/// Appends the numbers of a node, from `cz=` to `kids=`.
+pub fn print_stat(meta: &Meta, out: &mut Vec<u8>) -> Result<(), NoMemory>
+    ensures ok { OnOk result (out.new.items ≡ out.old.items ++ stat_text meta.now) }
+    ensures err { OnErr result (out.new.items ≡ out.old.items) }
+{
+    let mut text = Vec::new(*out.allocator());
+    write_stat(meta, &mut text)?;
+    append(text.as_slice(), out)
+}
+
 /// Appends bytes in lower-case hexadecimal, `-` for none.
 #[tactic(auto, unfolding(crate::specs::Texts::data_text))]
 pub fn print_data(bytes: &[u8], out: &mut Vec<u8>) -> Result<(), NoMemory>
-    ensures { OnOk result (out.new.items ≡ out.old.items ++ data_text bytes.now) }
+    ensures ok { OnOk result (out.new.items ≡ out.old.items ++ data_text bytes.now) }
+    ensures err { OnErr result (out.new.items ≡ out.old.items) }
 {
     if bytes.is_empty() {
         return print_text("-", out);
@@ -71,14 +90,23 @@ fn print_name(name: &Text, out: &mut Vec<u8>) -> Result<(), NoMemory>
     print_text(name.as_str(), out)
 }
 
-/// Appends names, each behind a space.
-pub fn print_names(names: &[Text], out: &mut Vec<u8>) -> Result<(), NoMemory>
+fn write_names(names: &[Text], out: &mut Vec<u8>) -> Result<(), NoMemory>
     ensures { OnOk result (out.new.items ≡ out.old.items ++ names_text names.now) }
 {
     for name in names {
         print_name(name, out)?;
     }
     Ok(())
+}
+
+/// Appends names, each behind a space.
+pub fn print_names(names: &[Text], out: &mut Vec<u8>) -> Result<(), NoMemory>
+    ensures ok { OnOk result (out.new.items ≡ out.old.items ++ names_text names.now) }
+    ensures err { OnErr result (out.new.items ≡ out.old.items) }
+{
+    let mut text = Vec::new(*out.allocator());
+    write_names(names, &mut text)?;
+    append(text.as_slice(), out)
 }
 
 fn print_perms(perms: u32, out: &mut Vec<u8>) -> Result<(), NoMemory>
@@ -97,14 +125,23 @@ fn print_acl(acl: &Acl, out: &mut Vec<u8>) -> Result<(), NoMemory>
     print_text(acl.id.as_str(), out)
 }
 
-/// Appends the lines of an access list, each as `PERMS:SCHEME:ID` behind a space.
-pub fn print_acls(acls: &[Acl], out: &mut Vec<u8>) -> Result<(), NoMemory>
+fn write_acls(acls: &[Acl], out: &mut Vec<u8>) -> Result<(), NoMemory>
     ensures { OnOk result (out.new.items ≡ out.old.items ++ acls_text acls.now) }
 {
     for acl in acls {
         print_acl(acl, out)?;
     }
     Ok(())
+}
+
+/// Appends the lines of an access list, each as `PERMS:SCHEME:ID` behind a space.
+pub fn print_acls(acls: &[Acl], out: &mut Vec<u8>) -> Result<(), NoMemory>
+    ensures ok { OnOk result (out.new.items ≡ out.old.items ++ acls_text acls.now) }
+    ensures err { OnErr result (out.new.items ≡ out.old.items) }
+{
+    let mut text = Vec::new(*out.allocator());
+    write_acls(acls, &mut text)?;
+    append(text.as_slice(), out)
 }
 
 fn print_span(timeout: u32, epoch: u64, out: &mut Vec<u8>) -> Result<(), NoMemory>
@@ -121,13 +158,22 @@ fn print_counts(seq: u64, ids: usize, out: &mut Vec<u8>) -> Result<(), NoMemory>
     print_text(text.as_str(), out)
 }
 
-/// Appends the numbers of a session, from `timeout=` to `ids=`.
 #[tactic(auto, unfolding(crate::specs::Texts::session_text))]
-pub fn print_session(session: &Session, out: &mut Vec<u8>) -> Result<(), NoMemory>
+fn write_session(session: &Session, out: &mut Vec<u8>) -> Result<(), NoMemory>
     ensures { OnOk result (out.new.items ≡ out.old.items ++ session_text session.now) }
 {
     print_span(session.timeout, session.epoch, out)?;
     print_counts(session.seq, session.ids.len(), out)
+}
+
+/// Appends the numbers of a session, from `timeout=` to `ids=`.
+pub fn print_session(session: &Session, out: &mut Vec<u8>) -> Result<(), NoMemory>
+    ensures ok { OnOk result (out.new.items ≡ out.old.items ++ session_text session.now) }
+    ensures err { OnErr result (out.new.items ≡ out.old.items) }
+{
+    let mut text = Vec::new(*out.allocator());
+    write_session(session, &mut text)?;
+    append(text.as_slice(), out)
 }
 
 fn print_path(path: &Text, out: &mut Vec<u8>) -> Result<(), NoMemory>
@@ -141,7 +187,7 @@ fn print_changed(meta: &Meta, out: &mut Vec<u8>) -> Result<(), NoMemory>
     ensures { OnOk result (out.new.items ≡ out.old.items ++ (codes "ok " ++ stat_text meta.now)) }
 {
     print_text("ok ", out)?;
-    print_stat(meta, out)
+    write_stat(meta, out)
 }
 
 fn print_error(code: i32, out: &mut Vec<u8>) -> Result<(), NoMemory>
@@ -165,7 +211,6 @@ fn print_epoch(epoch: u64, out: &mut Vec<u8>) -> Result<(), NoMemory>
     print_text(text.as_str(), out)
 }
 
-/// Appends what an operation of a multi was answered.
 fn print_op_reply(reply: &OpReply, out: &mut Vec<u8>) -> Result<(), NoMemory>
     ensures { OnOk result (out.new.items ≡ out.old.items ++ op_reply_text reply.now) }
 {
@@ -263,9 +308,8 @@ fn print_failed(errors: &[i32], out: &mut Vec<u8>) -> Result<(), NoMemory>
     print_errors(errors, out)
 }
 
-/// Appends a reply.
 #[tactic(auto, unfolding(crate::specs::Texts::reply_text))]
-pub fn print_reply(reply: &Reply, out: &mut Vec<u8>) -> Result<(), NoMemory>
+fn write_reply(reply: &Reply, out: &mut Vec<u8>) -> Result<(), NoMemory>
     ensures { OnOk result (out.new.items ≡ out.old.items ++ reply_text reply.now) }
 {
     match reply {
@@ -280,4 +324,14 @@ pub fn print_reply(reply: &Reply, out: &mut Vec<u8>) -> Result<(), NoMemory>
         Reply::Multi(replies) => print_multi(replies.as_slice(), out),
         Reply::Failed(errors) => print_failed(errors.as_slice(), out),
     }
+}
+
+/// Appends a reply.
+pub fn print_reply(reply: &Reply, out: &mut Vec<u8>) -> Result<(), NoMemory>
+    ensures ok { OnOk result (out.new.items ≡ out.old.items ++ reply_text reply.now) }
+    ensures err { OnErr result (out.new.items ≡ out.old.items) }
+{
+    let mut text = Vec::new(*out.allocator());
+    write_reply(reply, &mut text)?;
+    append(text.as_slice(), out)
 }

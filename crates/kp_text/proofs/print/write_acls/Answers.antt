@@ -3,7 +3,7 @@ use Rattle.kp_model.specs.declared.node.Acl.{Acl}
 use Rattle.kp_text.specs.Spelling.{spelled_acl}
 use Rattle.kp_text.specs.Texts.{acls_text}
 use Rattle.kp_text.proofs.Prints.{printed_more, printed_all}
-use Rattle.kp_text.proofs.print.print_acls.Goals as goal
+use Rattle.kp_text.proofs.print.write_acls.Goals as goal
 use lib.Chars.{codes}
 
 pub loop-acl-preserved : goal.loop-acl-preserved

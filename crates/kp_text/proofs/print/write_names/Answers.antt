@@ -1,7 +1,7 @@
 use Rattle.std.proofs.Common.{◌++◌, List, ℕ, refl}
 use Rattle.kp_text.specs.Texts.{names_text}
 use Rattle.kp_text.proofs.Prints.{printed_more, printed_all}
-use Rattle.kp_text.proofs.print.print_names.Goals as goal
+use Rattle.kp_text.proofs.print.write_names.Goals as goal
 use lib.Chars.{codes}
 
 pub loop-name-preserved : goal.loop-name-preserved

@@ -2,95 +2,23 @@
 //! drawn by a small generator, go through both, and every text that either prints is compared.
 ghost use Rattle.std.specs.Prelude.{◌<◌, ◌≤◌, IfOk, IfSome, IsTrue};
 ghost use Rattle.kp_model.specs.Grammar.{is_body};
+ghost use Rattle.kp_text.specs.Spelling.{is_line};
 
+mod drawn;
+
+use crate::agreement::drawn::{Dice, PLACES, Place, below, line, path, session};
 use crate::line_commands::cmd_of;
-use crate::print::{done_text, kids_text, no_kids_text, pre_text, seen_text};
+use crate::print::{done_text, kids_text, no_kids_text, pre_text, seen_text, who_text};
 use crate::work::{children, peek, see};
-use kp_model::{Body, Bytes, Cmd, Committed, Entry, NoMemory, Origin, Paths, Seen, Text};
+use kp_model::{Body, Committed, Entry, NoMemory, Origin, Paths, Seen, Text, View};
 use kp_plain::PlainStore;
 use kp_storage::Storage;
-use kp_text::{Command, Operation};
+use kp_text::{LineFail, StoreLine, read_store_line};
 use std::alloc::Global;
 use std::test::Fail;
 
-/// Above each index, time and running number of these runs.
+/// Above each index and time of these runs.
 const MANY: u64 = 100000;
-
-/// Numbers that look drawn, by a linear congruence.
-#[derive(Drop)]
-struct Dice {
-    state: u64,
-}
-
-impl Dice {
-    /// A number below `sides`.
-    fn roll(&mut self, sides: u64) -> u64
-        requires { 0 < sides }
-        ensures { result < sides }
-    {
-        self.state = self
-            .state
-            .wrapping_mul(6364136223846793005)
-            .wrapping_add(1442695040888963407);
-        (self.state >> 33) % sides
-    }
-}
-
-/// A path, the path above it, and its name there.
-struct Place {
-    path: &'static str,
-    parent: &'static str,
-    name: &'static str,
-}
-
-/// The paths of the runs, ascending.
-const PLACES: [Place; 9] = [
-    Place {
-        path: "/",
-        parent: "",
-        name: "",
-    },
-    Place {
-        path: "/a",
-        parent: "/",
-        name: "a",
-    },
-    Place {
-        path: "/a/b",
-        parent: "/a",
-        name: "b",
-    },
-    Place {
-        path: "/a/b/c",
-        parent: "/a/b",
-        name: "c",
-    },
-    Place {
-        path: "/a/b/d",
-        parent: "/a/b",
-        name: "d",
-    },
-    Place {
-        path: "/a/e",
-        parent: "/a",
-        name: "e",
-    },
-    Place {
-        path: "/f",
-        parent: "/",
-        name: "f",
-    },
-    Place {
-        path: "/f/g",
-        parent: "/f",
-        name: "g",
-    },
-    Place {
-        path: "/f/h",
-        parent: "/f",
-        name: "h",
-    },
-];
 
 /// The two stores.
 #[derive(Drop)]
@@ -99,111 +27,57 @@ struct Both {
     plain: PlainStore,
 }
 
-/// The path of a drawn place.
-fn path(alloc: Global, dice: &mut Dice) -> Result<Text, NoMemory> {
-    Text::from_str(alloc, PLACES[dice.roll(9) as usize].path)
-}
-
-/// Up to two bytes.
-fn data(alloc: Global, dice: &mut Dice) -> Result<Bytes, NoMemory> {
-    Ok(Bytes::from_vec(vec![in alloc; 7u8; dice.roll(3) as usize]?))
-}
-
-/// A version, often the one that matches all.
-fn version(dice: &mut Dice) -> u32 {
-    match dice.roll(4) {
-        0 => 0,
-        1 => 1,
-        _ => 4294967295,
-    }
-}
-
-fn delete(alloc: Global, dice: &mut Dice) -> Result<Cmd, NoMemory> {
-    let version = version(dice);
-    Ok(Cmd::Delete {
-        path: path(alloc, dice)?,
-        version,
-    })
-}
-
-fn set(alloc: Global, dice: &mut Dice) -> Result<Cmd, NoMemory> {
-    let version = version(dice);
-    let bytes = data(alloc, dice)?;
-    Ok(Cmd::SetData {
-        path: path(alloc, dice)?,
-        bytes,
-        version,
-    })
-}
-
-fn check(alloc: Global, dice: &mut Dice) -> Result<Cmd, NoMemory> {
-    let version = version(dice);
-    Ok(Cmd::Check {
-        path: path(alloc, dice)?,
-        version,
-    })
-}
-
-fn create(alloc: Global, dice: &mut Dice) -> Result<Cmd, NoMemory> {
-    let bytes = data(alloc, dice)?;
-    let operation = Operation::Create {
-        path: path(alloc, dice)?,
-        flags: 0,
-        bytes,
-        acl: None,
-    };
-    cmd_of(alloc, Command::Operation(operation))
-}
-
-fn command(alloc: Global, dice: &mut Dice) -> Result<Cmd, NoMemory> {
-    match dice.roll(8) {
-        0 => delete(alloc, dice),
-        1 => set(alloc, dice),
-        2 => check(alloc, dice),
-        _ => create(alloc, dice),
-    }
-}
-
-/// The opening of a session by the n-th step.
-fn opening(n: u64) -> Body
-    requires { n ≤ 100000 }
-    ensures numbers { IsTrue (is_body result) }
+/// The origin of a session that the n-th step opens or takes over: one of a few, which may hold a session already.
+fn origin(n: u64) -> Origin
+    ensures { (result.boot ≤ 100000) × (result.conn ≤ 100000) }
 {
-    Body::OpenSession {
-        timeout: 30000,
-        passwd: [0; 16],
-        origin: Origin {
-            node: 0,
-            boot: 0,
-            conn: n,
-        },
+    Origin {
+        node: 0,
+        boot: 0,
+        conn: n % 24,
     }
 }
 
-/// The epoch of session 1 and its next number, which is sometimes one that was used; None where there is no session.
-fn numbers(dice: &mut Dice, store: &Storage) -> Option<(u64, u64)>
-    ensures { IfSome result (λ x. (x.0 ≤ 100000) × (x.1 ≤ 100001)) }
-{
-    let late = if dice.roll(12) == 0 { 0 } else { 1 };
-    match store.latest_session(1) {
-        None => None,
-        Some(found) => Some((found.epoch.min(MANY), found.seq.min(MANY) + late)),
-    }
-}
-
-/// A write of session 1, or its opening.
-fn body(alloc: Global, dice: &mut Dice, store: &Storage, n: u64) -> Result<Body, NoMemory>
-    requires { n ≤ 100000 }
+/// The body of the entry that a line adds in the n-th step; a no-op for the lines that add none or give no number.
+fn body_of(alloc: Global, n: u64, line: StoreLine) -> Result<Body, NoMemory>
+    requires { IsTrue (is_line line) }
     ensures numbers { IfOk result (λ b. IsTrue (is_body b)) }
 {
-    match numbers(dice, store) {
-        None => Ok(opening(n)),
-        Some((epoch, seq)) => Ok(Body::Write {
-            session: 1,
+    match line {
+        StoreLine::Open { timeout, passwd } => Ok(Body::OpenSession {
+            timeout,
+            passwd,
+            origin: origin(n),
+        }),
+        StoreLine::Attach { session, passwd } => Ok(Body::Attach {
+            session,
+            passwd,
+            origin: origin(n),
+        }),
+        StoreLine::Expire { session } => Ok(Body::Expire { session }),
+        StoreLine::Raw {
+            session,
             epoch,
             seq,
-            cmd: command(alloc, dice)?,
+            command,
+        } => Ok(Body::Write {
+            session,
+            epoch,
+            seq,
+            cmd: cmd_of(alloc, command)?,
         }),
+        _ => Ok(Body::Noop),
+    }
+}
+
+/// The body of the entry that a text adds; None where it is no line.
+fn read_body(alloc: Global, n: u64, text: &[u8]) -> Result<Option<Body>, NoMemory>
+    ensures numbers { IfOk result (λ o. IfSome o (λ b. IsTrue (is_body b))) }
+{
+    match read_store_line(alloc, text) {
+        Ok(line) => Ok(Some(body_of(alloc, n, line)?)),
+        Err(LineFail::BadLine) => Ok(None),
+        Err(LineFail::NoMemory) => Err(NoMemory),
     }
 }
 
@@ -240,12 +114,18 @@ fn same_kept(alloc: Global, both: &Both) -> Result<bool, NoMemory> {
     Ok(layered.as_slice() == plain.as_slice())
 }
 
+/// Adds the entry of a drawn line. Whether it is a line, and both print the same.
 fn add(alloc: Global, dice: &mut Dice, both: &mut Both, n: u64) -> Result<bool, NoMemory>
     requires { n ≤ 100000 }
 {
-    let body = body(alloc, dice, &both.layered, n)?;
-    enter(both, n, body)?;
-    same_kept(alloc, both)
+    let text = line(alloc, dice, &both.layered)?;
+    match read_body(alloc, n, text.as_slice())? {
+        None => Ok(false),
+        Some(body) => {
+            enter(both, n, body)?;
+            same_kept(alloc, both)
+        }
+    }
 }
 
 fn add_noop(alloc: Global, both: &mut Both, n: u64) -> Result<bool, NoMemory>
@@ -285,8 +165,8 @@ fn step(alloc: Global, dice: &mut Dice, both: &mut Both, n: u64) -> Result<bool,
 {
     match dice.roll(16) {
         0 => add_noop(alloc, both, n),
-        1 | 2 | 3 | 4 => commit(alloc, both),
-        5 => Ok(truncate(dice, both)),
+        1 | 2 | 3 | 4 | 5 => commit(alloc, both),
+        6 => Ok(truncate(dice, both)),
         _ => add(alloc, dice, both, n),
     }
 }
@@ -319,68 +199,156 @@ fn has(plain: &PlainStore, path: &str, committed: bool) -> Result<bool, NoMemory
     }
 }
 
-/// Adds the name of a place where the plain store has it.
-fn add_name(
-    alloc: Global,
-    plain: &PlainStore,
-    place: &Place,
-    committed: bool,
-    names: &mut Paths,
-) -> Result<(), NoMemory> {
-    if has(plain, place.path, committed)? {
-        names.push(Text::from_str(alloc, place.name)?)?;
+/// The number of children that the plain store tells of a node; None where it has none.
+fn plain_count(plain: &PlainStore, path: &str, committed: bool) -> Result<Option<u32>, NoMemory> {
+    let seen = if committed {
+        plain.see(path)?
+    } else {
+        plain.peek(path)?
+    };
+    match &seen {
+        None => Ok(None),
+        Some(seen) => Ok(Some(seen.meta.kids)),
     }
-    Ok(())
 }
 
-/// The names below a place, by asking for each path.
-fn names_below(
+/// Those of the names below a path that the plain store has there.
+fn names_there(
     alloc: Global,
     plain: &PlainStore,
     at: &str,
+    names: &Paths,
     committed: bool,
 ) -> Result<Paths, NoMemory> {
-    let mut names = Paths::new(alloc);
-    for place in &PLACES {
-        if place.parent == at {
-            add_name(alloc, plain, place, committed, &mut names)?;
+    let mut there = Paths::new(alloc);
+    for name in names.as_slice() {
+        let child = below(alloc, at, name.as_str())?;
+        if has(plain, child.as_str(), committed)? {
+            there.push(name.copy(alloc)?)?;
         }
     }
-    Ok(names)
+    Ok(there)
 }
 
+/// Whether each name is above the one before it.
+fn are_ascending(names: &[Text]) -> bool {
+    let mut before = "";
+    for name in names {
+        if name.as_str() <= before {
+            return false;
+        }
+        before = name.as_str();
+    }
+    true
+}
+
+fn is_among(names: &[Text], name: &str) -> bool {
+    names.iter().any(|other| other.as_str() == name)
+}
+
+/// Whether the name of a place is among those below its parent exactly where the plain store has the place.
+fn is_told(
+    plain: &PlainStore,
+    place: &Place,
+    names: &Paths,
+    committed: bool,
+) -> Result<bool, NoMemory> {
+    Ok(is_among(names.as_slice(), place.name) == has(plain, place.path, committed)?)
+}
+
+/// Whether the names below a path tell of the places there as the plain store does.
+fn are_places_told(
+    plain: &PlainStore,
+    at: &str,
+    names: &Paths,
+    committed: bool,
+) -> Result<bool, NoMemory> {
+    let mut told = true;
+    for place in &PLACES {
+        if place.parent == at && !is_told(plain, place, names, committed)? {
+            told = false;
+        }
+    }
+    Ok(told)
+}
+
+/// What the plain store prints of the children, of which it is asked for each name.
 fn plain_kids(
     alloc: Global,
     word: &str,
     plain: &PlainStore,
     at: &str,
+    names: &Paths,
     committed: bool,
 ) -> Result<Vec<u8>, NoMemory> {
     if !has(plain, at, committed)? {
         return no_kids_text(alloc, word);
     }
-    let names = names_below(alloc, plain, at, committed)?;
-    kids_text(alloc, word, &names)
+    let there = names_there(alloc, plain, at, names, committed)?;
+    kids_text(alloc, word, &there)
+}
+
+/// Whether these are the names of all children that the plain store has: ascending, as many as it tells, and with
+/// those of the places.
+fn are_all(plain: &PlainStore, at: &str, names: &Paths, committed: bool) -> Result<bool, NoMemory> {
+    let count = plain_count(plain, at, committed)?;
+    let counted = count.unwrap_or(0) as usize == names.len();
+    Ok(counted && are_ascending(names.as_slice()) && are_places_told(plain, at, names, committed)?)
+}
+
+/// Whether both have the same number of children in the uncommitted state, and the same of the places among them.
+fn same_count(alloc: Global, both: &Both, at: &Text) -> Result<bool, NoMemory> {
+    let names = both.layered.latest().kids(alloc, at.as_str())?;
+    are_all(&both.plain, at.as_str(), &names, false)
 }
 
 fn same_kids(alloc: Global, both: &Both, at: &Text) -> Result<bool, NoMemory> {
+    let names = both.layered.latest().kids(alloc, at.as_str())?;
     let layered = children(alloc, "kids", &both.layered.latest(), at)?;
-    let plain = plain_kids(alloc, "kids", &both.plain, at.as_str(), false)?;
+    let plain = plain_kids(alloc, "kids", &both.plain, at.as_str(), &names, false)?;
     Ok(layered.as_slice() == plain.as_slice())
 }
 
 fn same_ls(alloc: Global, both: &Both, at: &Text) -> Result<bool, NoMemory> {
+    let names = both.layered.committed().kids(alloc, at.as_str())?;
     let layered = children(alloc, "ls", &both.layered.committed(), at)?;
-    let plain = plain_kids(alloc, "ls", &both.plain, at.as_str(), true)?;
+    let plain = plain_kids(alloc, "ls", &both.plain, at.as_str(), &names, true)?;
+    let all = are_all(&both.plain, at.as_str(), &names, true)?;
+    Ok(all && layered.as_slice() == plain.as_slice())
+}
+
+fn same_who(alloc: Global, both: &Both, session: u64) -> Result<bool, NoMemory> {
+    let layered = who_text(alloc, both.layered.latest_session(session))?;
+    let found = both.plain.who(session)?;
+    let plain = who_text(alloc, found.as_ref())?;
     Ok(layered.as_slice() == plain.as_slice())
 }
 
-/// Whether both print the same of a drawn place, in both states.
+/// Whether both print the same of a drawn node, in both states. In the uncommitted state each of its children is asked
+/// for in every fourth look only, as the plain store replays its entries at each.
 fn look(alloc: Global, dice: &mut Dice, both: &Both) -> Result<bool, NoMemory> {
-    let at = path(alloc, dice)?;
+    let at = path(alloc, dice, &both.layered)?;
     let seen = same_peek(alloc, both, &at)? && same_see(alloc, both, &at)?;
-    let listed = same_kids(alloc, both, &at)? && same_ls(alloc, both, &at)?;
-    Ok(seen && listed)
+    let counted = same_count(alloc, both, &at)? && same_ls(alloc, both, &at)?;
+    let listed = dice.roll(4) != 0 || same_kids(alloc, both, &at)?;
+    Ok(seen && counted && listed)
+}
+
+/// Whether both print the same of a drawn session.
+fn look_at_session(alloc: Global, dice: &mut Dice, both: &Both) -> Result<bool, NoMemory> {
+    let id = session(alloc, dice, &both.layered)?;
+    same_who(alloc, both, id)
+}
+
+/// Whether both print the same of each session of these runs.
+fn same_sessions(alloc: Global, both: &Both) -> Result<bool, NoMemory> {
+    let mut same = true;
+    for id in 0..both.layered.latest().next_session().min(MANY) {
+        if !same_who(alloc, both, id)? {
+            same = false;
+        }
+    }
+    Ok(same)
 }
 
 /// How many of the steps, and of the looks behind them, give the same in both.
@@ -390,7 +358,7 @@ fn agreeing(alloc: Global, dice: &mut Dice, both: &mut Both, steps: u64) -> Resu
     let mut same: u64 = 0;
     for n in 0..steps {
         let stepped = step(alloc, dice, both, n)?;
-        let looked = look(alloc, dice, both)?;
+        let looked = look(alloc, dice, both)? && look_at_session(alloc, dice, both)?;
         if stepped && looked {
             same = same.saturating_add(1);
         }
@@ -405,13 +373,17 @@ fn blank(alloc: Global) -> Result<Both, NoMemory> {
     Ok(Both { layered, plain })
 }
 
-/// Those of a run on empty stores.
+/// Those of a run on empty stores; none where the sessions behind it differ.
 fn agreeing_of(alloc: Global, steps: u64) -> Result<u64, NoMemory>
     requires { steps ≤ 100000 }
 {
     let mut dice = Dice { state: 2026 };
     let mut both = blank(alloc)?;
-    agreeing(alloc, &mut dice, &mut both, steps)
+    let same = agreeing(alloc, &mut dice, &mut both, steps)?;
+    if !same_sessions(alloc, &both)? {
+        return Ok(0);
+    }
+    Ok(same)
 }
 
 #[test]

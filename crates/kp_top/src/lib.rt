@@ -19,4 +19,6 @@ mod agreement;
 #[cfg(test)]
 mod copies;
 #[cfg(test)]
+mod long_multi;
+#[cfg(test)]
 mod tests;

@@ -3,7 +3,7 @@
 ghost use Rattle.std.specs.Prelude.{◌≡◌, [], ◌++◌, ℕ, IfOk, IsSome, OnOk};
 ghost use Rattle.std.specs.List.{flat_map};
 ghost use Rattle.std.specs.FinMap as map;
-ghost use Rattle.kp_model.specs.Good.{IsSound};
+ghost use Rattle.kp_model.specs.Good.{IsGood};
 ghost use Rattle.kp_model.specs.State.{Sessions};
 ghost use Rattle.kp_model.specs.Step.{closed, removal_events};
 ghost use Rattle.kp_model.specs.Touched.{touched_in};
@@ -21,7 +21,7 @@ use std::alloc::Global;
 /// What the end of a session at an index does: the nodes that it owns go in ascending order of their paths, and then
 /// the session. It costs what the session owns.
 pub(crate) fn close<V: View>(alloc: Global, view: &V, index: u64, id: u64) -> Result<Plan, NoMemory>
-    requires sound { IsSound (V.state view.now) }
+    requires good { IsGood (V.state view.now) }
     requires live { IsSome (map.get (V.state view.now).sessions id) }
     ensures { let s = V.state view.now in (applied : ℕ) (sessions : Sessions) → map.remove sessions id ≡ map.remove s.sessions id → IfOk result (IsPlan (touched_in s id cmd.CloseSession) s (closed (record s { applied = applied; sessions = sessions }) index id)) }
 {

@@ -3,7 +3,7 @@
 ghost use Rattle.std.specs.Prelude.{◌≡◌, ◌+◌, ◌++◌, IfOk, OnOk, IsTrue};
 ghost use Rattle.std.specs.List.{All, list_all};
 ghost use Rattle.std.specs.FinMap as map;
-ghost use Rattle.kp_model.specs.Good.{IsSound};
+ghost use Rattle.kp_model.specs.Good.{IsGood};
 ghost use Rattle.kp_model.specs.Path.{parent};
 ghost use Rattle.kp_model.specs.State.{State};
 ghost use Rattle.kp_model.specs.Step.{apply};
@@ -37,7 +37,7 @@ pub fn decide<V: View>(
     index: u64,
     entry: &Entry,
 ) -> Result<Decided, NoMemory>
-    requires sound { IsSound (V.state view.now) }
+    requires good { IsGood (V.state view.now) }
     requires next { (V.state view.now).applied + 1 ≡ index }
     ensures reply { IfOk result (λ d. d.prepared.reply ≡ (apply (V.state view.now) entry.now).reply) }
     ensures events { IfOk result (λ d. d.prepared.events ≡ (apply (V.state view.now) entry.now).events) }

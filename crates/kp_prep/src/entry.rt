@@ -3,7 +3,7 @@
 ghost use Rattle.std.specs.Prelude.{◌≡◌, ◌+◌, ◌==◌, ◌&&◌, ℕ, Some, IfOk, IsTrue};
 ghost use Rattle.std.specs.FinMap as map;
 ghost use Rattle.kp_model.specs.Grammar.{fits_cmd};
-ghost use Rattle.kp_model.specs.Good.{IsSound};
+ghost use Rattle.kp_model.specs.Good.{IsGood};
 ghost use Rattle.kp_model.specs.Step as step;
 ghost use Rattle.kp_model.specs.Step.{apply, expired, written_by, with_seq};
 ghost use Rattle.kp_model.specs.Touched.{touched, touched_by, touched_at};
@@ -28,7 +28,7 @@ pub(crate) fn plan<V: View>(
     index: u64,
     entry: &Entry,
 ) -> Result<Plan, NoMemory>
-    requires sound { IsSound (V.state view.now) }
+    requires good { IsGood (V.state view.now) }
     requires next { (V.state view.now).applied + 1 ≡ index }
     ensures { IfOk result (IsPlan (touched (V.state view.now) entry.now) (V.state view.now) (apply (V.state view.now) entry.now)) }
 {
@@ -60,7 +60,7 @@ pub(crate) fn plan<V: View>(
 
 // What the end of a session that wasn't heard does.
 fn expire<V: View>(alloc: Global, view: &V, index: u64, id: u64) -> Result<Plan, NoMemory>
-    requires sound { IsSound (V.state view.now) }
+    requires good { IsGood (V.state view.now) }
     ensures { let s = V.state view.now in (applied : ℕ) → IfOk result (IsPlan (touched_by s (body.Expire id)) s (expired (map.get s.sessions id) (record s { applied = applied }) index id)) }
 {
     match view.session(id) {
@@ -79,7 +79,7 @@ fn write<V: View>(
     seq: u64,
     cmd: &Cmd,
 ) -> Result<Plan, NoMemory>
-    requires sound { IsSound (V.state view.now) }
+    requires good { IsGood (V.state view.now) }
     requires fits { IsTrue (fits_cmd cmd.now) }
     ensures { let s = V.state view.now in IfOk result (IsPlan (touched_at s stamp.index stamp.time (body.Write id epoch seq cmd.now)) s (written_by (map.get s.sessions id) (record s { applied = stamp.index }) stamp.index stamp.time id epoch seq cmd.now)) }
 {
@@ -100,7 +100,7 @@ fn write_of<V: View>(
     seq: u64,
     cmd: &Cmd,
 ) -> Result<Plan, NoMemory>
-    requires sound { IsSound (V.state view.now) }
+    requires good { IsGood (V.state view.now) }
     requires fits { IsTrue (fits_cmd cmd.now) }
     requires live { Some session.now ≡ map.get (V.state view.now).sessions id }
     ensures { let s = V.state view.now in IfOk result (IsPlan (touched_at s stamp.index stamp.time (body.Write id epoch seq cmd.now)) s (written_by (Some session.now) (record s { applied = stamp.index }) stamp.index stamp.time id epoch seq cmd.now)) }
@@ -137,7 +137,7 @@ fn acted<V: View>(
     seq: u64,
     cmd: &Cmd,
 ) -> Result<Plan, NoMemory>
-    requires sound { IsSound (V.state view.now) }
+    requires good { IsGood (V.state view.now) }
     requires fits { IsTrue (fits_cmd cmd.now) }
     requires live { Some session.now ≡ map.get (V.state view.now).sessions id }
     ensures { let s = V.state view.now in (epoch : ℕ) → IfOk result (IsPlan (touched_at s stamp.index stamp.time (body.Write id epoch seq cmd.now)) s (step.act (record s { applied = stamp.index; sessions = map.insert s.sessions id (with_seq seq session.now) }) id session.now.ids stamp.index stamp.time cmd.now)) }
@@ -160,7 +160,7 @@ fn acted_on_node<V: View>(
     seq: u64,
     cmd: &Cmd,
 ) -> Result<Plan, NoMemory>
-    requires sound { IsSound (V.state view.now) }
+    requires good { IsGood (V.state view.now) }
     requires fits { IsTrue (fits_cmd cmd.now) }
     requires node { IsTrue (is_on_node cmd.now) }
     ensures { let s = V.state view.now in (epoch : ℕ) → IfOk result (IsPlan (touched_at s stamp.index stamp.time (body.Write id epoch seq cmd.now)) s (step.act (record s { applied = stamp.index; sessions = map.insert s.sessions id (with_seq seq session.now) }) id session.now.ids stamp.index stamp.time cmd.now)) }

@@ -3,7 +3,7 @@
 ghost use Rattle.std.specs.Prelude.{◌≡◌, ◌-◌, ◌++◌, [], ℕ, Some, None, replicate, IfOk, OnOk, IsTrue, MatchResult};
 ghost use Rattle.std.specs.List.{list_all};
 ghost use Rattle.std.specs.FinMap as map;
-ghost use Rattle.kp_model.specs.Good.{IsSound};
+ghost use Rattle.kp_model.specs.Good.{IsGood};
 ghost use Rattle.kp_model.specs.Grammar.{fits_cmd, fits_op};
 ghost use Rattle.kp_model.specs.State.{Nodes};
 ghost use Rattle.kp_model.specs.Step.{error_of, op_reply, failure, with_seq};
@@ -45,7 +45,7 @@ pub(crate) fn multi<V: View>(
     seq: u64,
     ops: &Ops,
 ) -> Result<Plan, NoMemory>
-    requires sound { IsSound (V.state view.now) }
+    requires good { IsGood (V.state view.now) }
     requires fits { IsTrue (fits_cmd (cmd.Multi ops.now)) }
     requires live { Some session.now ≡ map.get (V.state view.now).sessions id }
     ensures { let s = V.state view.now in (epoch : ℕ) → IfOk result (IsPlan (touched_at s stamp.index stamp.time (body.Write id epoch seq (cmd.Multi ops.now))) s (step.act (record s { applied = stamp.index; sessions = map.insert s.sessions id (with_seq seq session.now) }) id session.now.ids stamp.index stamp.time (cmd.Multi ops.now))) }

@@ -1,5 +1,5 @@
 ghost use Rattle.std.specs.Prelude.{◌≡◌, ◌+◌, IfOk, OnOk, OnErr};
-ghost use Rattle.kp_model.specs.Good.{IsSound};
+ghost use Rattle.kp_model.specs.Good.{IsGood};
 ghost use Rattle.kp_model.specs.Step.{apply};
 ghost use Rattle.kp_model.specs.Touched.{touched};
 ghost use Rattle.kp_cells.specs.Overlays.{IsOpen, all_begun, latest_parts, latest_state};
@@ -24,7 +24,7 @@ pub fn prepare(
 ) -> Result<Prepared, NoMemory>
     requires fresh { cells.old ≡ all_begun cells.old }
     requires fits { FitTogether (latest_parts cells.old) }
-    requires sound { IsSound (latest_state cells.old) }
+    requires good { IsGood (latest_state cells.old) }
     requires next { (latest_state cells.old).applied + 1 ≡ index }
     ensures reply { IfOk result (λ p. p.reply ≡ (apply (latest_state cells.old) entry.now).reply) }
     ensures events { IfOk result (λ p. p.events ≡ (apply (latest_state cells.old) entry.now).events) }

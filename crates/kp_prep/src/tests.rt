@@ -1,5 +1,5 @@
 ghost use Rattle.std.specs.Prelude.{◌≡◌, IfOk, IsTrue};
-ghost use Rattle.kp_model.specs.Good.{IsSound};
+ghost use Rattle.kp_model.specs.Good.{IsGood, IsSound};
 ghost use Rattle.kp_cells.specs.Overlays.{all_begun, latest_parts, latest_state};
 ghost use Rattle.kp_cells.specs.Parts.{FitTogether};
 
@@ -82,7 +82,7 @@ fn prepared(alloc: Global, entry: &Entry) -> Result<Prepared, NoMemory> {
 // What the first entry is answered and changes.
 fn decided(alloc: Global, cells: &Cells, entry: &Entry) -> Result<Decided, NoMemory>
     requires fits { FitTogether (latest_parts cells.now) }
-    requires sound { IsSound (latest_state cells.now) }
+    requires good { IsGood (latest_state cells.now) }
     requires next { (latest_state cells.now).applied ≡ 0 }
 {
     decide(alloc, &cells.latest(), 1, entry)

@@ -10,6 +10,7 @@ ghost use Rattle.kp_model.specs.Store.{after, latest as latest_of, last as last_
 ghost use Rattle.kp_cells.specs.Parts.{parts_of};
 ghost use Rattle.kp_cells.specs.Overlays.{IsClosed, depth, committed_parts, latest_parts, committed_state, latest_state};
 ghost use Rattle.kp_prep.specs.Touching.{AreWithin, layer_keys};
+ghost use Rattle.kp_storage.specs.Kept.{IsLayered};
 
 use kp_cells::{Cells, CommittedView, LatestView};
 use kp_model::{Committed, Entry, Meta, NoMemory, Reply, Session};
@@ -242,6 +243,7 @@ impl Storage {
     pub fn cells(&self) -> &Cells
         ensures closed { IsClosed result.now }
         ensures depth { depth result.now ≡ length self.now.unapplied }
+        ensures layered { IsLayered (length self.now.unapplied) result.now }
         ensures committed { committed_state result.now ≡ self.now.state }
         ensures latest { latest_state result.now ≡ latest_of self.now }
         ensures committed_parts { committed_parts result.now ≡ parts_of self.now.state }

@@ -1,9 +1,10 @@
-use Rattle.std.proofs.Common.{◌≡◌, ℕ, take, slice_get, Some, ap, subst, ◌∙◌}
+use Rattle.std.proofs.Common.{◌≡◌, ℕ, length, take, slice_get, Some, ap, subst, ◌∙◌}
 use Rattle.kp_model.specs.LogEntry.{LogEntry}
 use Rattle.kp_model.specs.Touched.{touched}
 use Rattle.kp_prep.specs.Touching.{AreWithin, layer_keys}
 use Rattle.kp_model.specs.Store.{Store, after}
 use Rattle.kp_cells.specs.Parts.{parts_of}
+use Rattle.kp_storage.specs.Kept.{IsLayered}
 use Rattle.kp_storage.proofs.Keeping.{latest_state_is, committed_parts_are}
 use Rattle.kp_storage.proofs.storage.Storage.cells.Goals as goal
 
@@ -15,3 +16,6 @@ returns-clause-committed_parts c = committed_parts_are c.self.inside.cells c.sel
 
 pub returns-clause-touches : goal.returns-clause-touches
 returns-clause-touches c = subst (λ (x : Store). (k : ℕ) (e : LogEntry) → slice_get x.unapplied k ≡ Some e → AreWithin (touched (after x.state (take k x.unapplied)) e) (layer_keys k c.self.inside.cells)) c.self.view_is c.self.invariant.touches
+
+pub returns-clause-layered : goal.returns-clause-layered
+returns-clause-layered c = subst (λ (x : Store). IsLayered (length x.unapplied) c.self.inside.cells) c.self.view_is c.self.invariant.layered

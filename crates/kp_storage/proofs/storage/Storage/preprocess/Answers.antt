@@ -1,5 +1,5 @@
 use Rattle.std.proofs.Common.{◌≡◌, ℕ, ◌+◌, ◌<◌, List, [], ◌∷◌, ◌++◌, length, ap, sym, subst, ◌∙◌, arith}
-use Rattle.kp_model.specs.Good.{IsSound}
+use Rattle.kp_model.specs.Good.{IsGood}
 use Rattle.kp_model.specs.LogEntry.{LogEntry}
 use Rattle.kp_model.specs.Step.{apply, Outcome}
 use Rattle.kp_model.specs.Store.{Store, committed_as}
@@ -15,8 +15,8 @@ use Rattle.kp_storage.proofs.storage.Storage.preprocess.Goals as goal
 pub prepare-requires-clause-fits : goal.prepare-requires-clause-fits
 prepare-requires-clause-fits c = subst (λ (o : Overlays). FitTogether (latest_parts o)) (sym c.in_ok-begin.ensures.ok) (begun_fits c.self.inside.cells c.self.inside.entries.items c.self.inside.answers.items c.self.invariant)
 
-pub prepare-requires-clause-sound : goal.prepare-requires-clause-sound
-prepare-requires-clause-sound c = subst (λ (o : Overlays). IsSound (latest_state o)) (sym c.in_ok-begin.ensures.ok) (begun_sound c.self.inside.cells c.self.inside.entries.items c.self.inside.answers.items c.self.invariant)
+pub prepare-requires-clause-good : goal.prepare-requires-clause-good
+prepare-requires-clause-good c = subst (λ (o : Overlays). IsGood (latest_state o)) (sym c.in_ok-begin.ensures.ok) (begun_sound c.self.inside.cells c.self.inside.entries.items c.self.inside.answers.items c.self.invariant).good
 
 pub prepare-requires-clause-next : goal.prepare-requires-clause-next
 prepare-requires-clause-next c =

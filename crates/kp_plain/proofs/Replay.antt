@@ -10,7 +10,7 @@ use Rattle.kp_model.proofs.Applied.{applied-apply, applied-after}
 use Rattle.kp_cells.specs.declared.change.Change.{Change}
 use Rattle.kp_prep.specs.Changing.{set_one, set_all}
 use Rattle.kp_plain.specs.Outcomes.{outcome}
-use Rattle.kp_prep.specs.declared.plan.Prepared.{Prepared}
+use Rattle.kp_act.specs.declared.plan.Prepared.{Prepared}
 
 -- one entry further
 pub after_more : (s : State) (es : List LogEntry) (i : ℕ) (e : LogEntry) → i < length es → e ≡ get_or es i e → after s (drop i es) ≡ after (apply s e).state (drop (i + 1) es)

@@ -4,7 +4,7 @@ use Rattle.kp_model.specs.declared.session.Session.{Session}
 use Rattle.kp_model.specs.declared.session.Origin.{Origin}
 use Rattle.kp_model.specs.State.{State, same_origin}
 use Rattle.kp_model.specs.Step.{Outcome}
-use Rattle.kp_prep.specs.declared.plan.Prepared.{Prepared}
+use Rattle.kp_act.specs.declared.plan.Prepared.{Prepared}
 
 -- the state that an entry leaves, with its reply and its events
 abbrev pub outcome : State → Prepared → Outcome

@@ -18,13 +18,13 @@ use Rattle.kp_model.specs.Step.{Outcome}
 use Rattle.kp_model.specs.Touched.{Touched}
 use Rattle.kp_cells.specs.Overlays.{Overlays, IsOpen, latest_parts, latest_state, all_begun, all_undone, marks_of, next_in, with_meta, with_content, with_acl, with_child, with_owned}
 use Rattle.kp_cells.specs.Parts.{Parts, parts_of, whole, FitTogether}
-use Rattle.kp_prep.specs.declared.plan.Effect.{Effect}
-use Rattle.kp_prep.specs.declared.plan.Effect.TheVariants as effect
-use Rattle.kp_prep.specs.declared.plan.Plan.{Plan}
-use Rattle.kp_prep.specs.Effects.{effected, owned_by, disowned, OwnerIs, TellsOwner}
-use Rattle.kp_prep.specs.Plans.{planned, settled, next_after, staged_plan, IsPlan}
-use Rattle.kp_prep.specs.Several.{effected_by, staged_effects, TellOwners}
-use Rattle.kp_prep.specs.Staged.{given_up, taken_on, staged_effect, staged_session, staged_next}
+use Rattle.kp_act.specs.declared.plan.Effect.{Effect}
+use Rattle.kp_act.specs.declared.plan.Effect.TheVariants as effect
+use Rattle.kp_act.specs.declared.plan.Plan.{Plan}
+use Rattle.kp_act.specs.Effects.{effected, owned_by, disowned, OwnerIs, TellsOwner}
+use Rattle.kp_act.specs.Plans.{planned, settled, next_after, IsPlan}
+use Rattle.kp_prep.specs.Staged.{staged_plan, staged_effects, given_up, taken_on, staged_effect, staged_session, staged_next}
+use Rattle.kp_act.specs.Several.{effected_by, TellOwners}
 
 -- two writes of the same part
 both : {V : Type 0} (l : Layering path_cmp V) (a b : List ℕ) (u : V) (w : Option V) → latest_of (written (written l a (Some u)) b w) ≡ elim w [ Some v ↦ map.insert (map.insert (latest_of l) a u) b v | None ↦ map.remove (map.insert (latest_of l) a u) b ]

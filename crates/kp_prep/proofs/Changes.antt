@@ -23,16 +23,16 @@ use Rattle.kp_cells.specs.Parts.{Parts, parts_of}
 use Rattle.kp_cells.specs.declared.change.Change.{Change}
 use Rattle.kp_cells.specs.declared.change.Change.TheVariants as change
 use Rattle.kp_prep.specs.declared.deciding.Decided.{Decided}
-use Rattle.kp_prep.specs.declared.plan.Effect.{Effect}
-use Rattle.kp_prep.specs.declared.plan.Effect.TheVariants as effect
-use Rattle.kp_prep.specs.declared.plan.Plan.{Plan}
-use Rattle.kp_prep.specs.Changing.{session_set, set_one, set_all, fits_change, renumbered_value, refilled_value, relisted_value, node_changes, effect_changes, session_changes, next_changes}
-use Rattle.kp_prep.specs.Effects.{FitsData, effected, renumbered, effected_nodes}
+use Rattle.kp_act.specs.declared.plan.Effect.{Effect}
+use Rattle.kp_act.specs.declared.plan.Effect.TheVariants as effect
+use Rattle.kp_act.specs.declared.plan.Plan.{Plan}
+use Rattle.kp_prep.specs.Changing.{session_set, set_one, set_all, fits_change, renumbered_value, refilled_value, relisted_value, node_changes, effect_changes, session_changes, next_changes, plan_changes, effects_changes}
+use Rattle.kp_act.specs.Effects.{FitsData, effected, renumbered, effected_nodes}
 use Rattle.kp_prep.specs.Ledgers.{nodes_behind}
-use Rattle.kp_prep.specs.Plans.{IsPlan, plan_changes, settled, next_after}
-use Rattle.kp_prep.specs.Several.{effected_by, effected_nodes_by, effects_changes}
-use Rattle.kp_prep.proofs.Paths.{path_total}
-use Rattle.kp_prep.proofs.Seen.{absent, present}
+use Rattle.kp_act.specs.Plans.{IsPlan, settled, next_after}
+use Rattle.kp_act.specs.Several.{effected_by, effected_nodes_by}
+use Rattle.kp_act.proofs.Paths.{path_total}
+use Rattle.kp_act.proofs.Seen.{absent, present}
 
 -- no list is lent where there is no node
 pub refilled_none : (nodes : Nodes) (p bytes : List ℕ) (m : Meta) → None ≡ acl_at nodes p → None ≡ refilled_value bytes m (map.get nodes p)
@@ -194,11 +194,6 @@ changes_set k s o p h =
       next = (sym (effected_next_by q p.effects) ∙ ap (λ (x : Parts). x.next) h.parts) j;
       applied = s.applied;
     })
-
--- an equal value is the same as one that is equal to it
-pub if_same : {X E : Type 0} (r : Result X E) (x y : X) → x ≡ y → IfOk r (λ v. v ≡ x) → IfOk r (λ v. v ≡ y)
-if_same (Ok v) x y e h = h ∙ e
-if_same (Err f) x y e h = tt
 
 -- the same of what was decided
 pub decided_sets : {E : Type 0} (r : Result Decided E) (k : Touched) (s : State) (o : Outcome) (p : Plan) → IsPlan k s o p → IfOk r (λ d. d.changes ≡ plan_changes s.nodes p) → IfOk r (λ d. set_all s d.changes ≡ record o.state { applied = s.applied })

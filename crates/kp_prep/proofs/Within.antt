@@ -9,7 +9,6 @@ use Rattle.std.proofs.lemmas.List.Elements.{All-head, All-tail}
 use Rattle.std.specs.Option.{option_map_or}
 use Rattle.std.specs.Str.{bytes_eq}
 use Rattle.std.specs.FinMap as fin
-use Rattle.std.proofs.lemmas.Bool.Decides.{Decides-eqb}
 use Rattle.std.proofs.lemmas.Slice.Eq.{bytes_eq-Decides}
 use Rattle.kp_layers.specs.Layering.{Layering, latest_of, staged_of, written}
 use Rattle.kp_model.specs.declared.command.Cmd.{Cmd}
@@ -24,18 +23,13 @@ use Rattle.kp_model.specs.Step.{made_path}
 use Rattle.kp_model.specs.Touched.{Touched, touched, with_parents, paths_of}
 use Rattle.kp_cells.specs.Overlays.{Overlays, all_begun, with_meta, with_content, with_acl, with_child, with_owned}
 use Rattle.kp_cells.proofs.Maps.{no}
-use Rattle.kp_prep.specs.declared.plan.Effect.{Effect}
-use Rattle.kp_prep.specs.declared.plan.Effect.TheVariants as effect
-use Rattle.kp_prep.specs.declared.plan.Plan.{Plan}
-use Rattle.kp_prep.specs.Effects.{IsOn, path_of}
-use Rattle.kp_prep.specs.Plans.{staged_plan}
-use Rattle.kp_prep.specs.Several.{staged_effects}
-use Rattle.kp_prep.specs.Staged.{given_up, taken_on, staged_effect, staged_session, staged_next}
-use Rattle.kp_prep.specs.Touching.{AreWithin, keys, staged_keys, is_among, is_one_of, IsFamilyAmong, IsEffectAmong, IsSessionAmong}
-
--- a session is one of itself
-pub the_one : (id : ℕ) → IsTrue (is_one_of (id ∷ []) id)
-the_one id = ap (λ b. b || false) ((Decides-eqb id id).1 refl)
+use Rattle.kp_act.specs.declared.plan.Effect.{Effect}
+use Rattle.kp_act.specs.declared.plan.Effect.TheVariants as effect
+use Rattle.kp_act.specs.declared.plan.Plan.{Plan}
+use Rattle.kp_act.specs.Effects.{IsOn, path_of}
+use Rattle.kp_prep.specs.Staged.{staged_plan, staged_effects, given_up, taken_on, staged_effect, staged_session, staged_next}
+use Rattle.kp_prep.specs.Touching.{AreWithin, keys, staged_keys}
+use Rattle.kp_act.specs.Among.{is_among, is_one_of, IsFamilyAmong, IsEffectAmong, IsSessionAmong}
 
 or_true : (b : Bool) → (b || true) ≡ true
 or_true true = refl

@@ -1,4 +1,4 @@
--- Changes that are set in a state, and those of an effect.
+-- Changes that are set in a state, and those of an effect and of a plan.
 use Rattle.std.specs.Prelude.{ℕ, Bool, true, List, [], ◌∷◌, ◌++◌, length, Option, Some, None}
 use Rattle.std.specs.Option.{option_map}
 use Rattle.std.specs.FinMap as map
@@ -13,8 +13,10 @@ use Rattle.kp_model.specs.State.{State, Nodes}
 use Rattle.kp_cells.specs.declared.change.NodeValue.{NodeValue}
 use Rattle.kp_cells.specs.declared.change.Change.{Change}
 use Rattle.kp_cells.specs.declared.change.Change.TheVariants as change
-use Rattle.kp_prep.specs.declared.plan.Effect.{Effect}
-use Rattle.kp_prep.specs.declared.plan.Effect.TheVariants as effect
+use Rattle.kp_act.specs.declared.plan.Effect.{Effect}
+use Rattle.kp_act.specs.declared.plan.Effect.TheVariants as effect
+use Rattle.kp_act.specs.Effects.{effected_nodes}
+use Rattle.kp_act.specs.declared.plan.Plan.{Plan}
 
 -- the state with the node at a path set, or without it
 abbrev pub node_set : State → List ℕ → Option NodeValue → State
@@ -84,3 +86,12 @@ session_changes (Some x) = change.Session x.0 x.1 ∷ []
 abbrev pub next_changes : Option ℕ → List Change
 next_changes None = []
 next_changes (Some n) = change.NextSession n ∷ []
+
+-- the changes of all effects, of each on the nodes after those before it
+unfoldable pub effects_changes : Nodes → List Effect → List Change
+effects_changes nodes [] = []
+effects_changes nodes (e ∷ es) = effect_changes nodes e ++ effects_changes (effected_nodes nodes e) es
+
+-- the changes of a plan on these nodes
+abbrev pub plan_changes : Nodes → Plan → List Change
+plan_changes nodes p = (session_changes p.session ++ next_changes p.next) ++ effects_changes nodes p.effects

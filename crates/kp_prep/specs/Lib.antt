@@ -1,12 +1,5 @@
-pub mod Looks
 pub mod Touching
-pub mod Effects
-pub mod Staged
 pub mod Changing
-pub mod Several
+pub mod Staged
+pub mod Entries
 pub mod Ledgers
-pub mod Plans
-pub mod Multis
-pub mod Drafts
-pub mod Behind
-pub mod Closing

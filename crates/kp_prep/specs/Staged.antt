@@ -1,10 +1,11 @@
--- The writes of an effect, a session and a session number in the open layer.
-use Rattle.std.specs.Prelude.{ℕ, true, false, ◌==◌, List, Option, Some, None, if◌then◌else◌}
+-- The writes of an effect, a session, a session number and a plan in the open layer.
+use Rattle.std.specs.Prelude.{ℕ, true, false, ◌==◌, List, Option, Some, None, if◌then◌else◌, [], ◌∷◌}
 use Rattle.kp_model.specs.declared.session.Session.{Session}
 use Rattle.kp_model.specs.Path.{parent}
 use Rattle.kp_cells.specs.Overlays.{Overlays, with_meta, with_content, with_acl, with_child, with_owned, with_session, with_next}
-use Rattle.kp_prep.specs.declared.plan.Effect.{Effect}
-use Rattle.kp_prep.specs.declared.plan.Effect.TheVariants as effect
+use Rattle.kp_act.specs.declared.plan.Effect.{Effect}
+use Rattle.kp_act.specs.declared.plan.Effect.TheVariants as effect
+use Rattle.kp_act.specs.declared.plan.Plan.{Plan}
 
 -- the node's session gives it up, where it has one
 abbrev pub given_up : Overlays → ℕ → List ℕ → Overlays
@@ -33,3 +34,12 @@ staged_session o (Some x) = with_session o x.0 x.1
 abbrev pub staged_next : Overlays → Option ℕ → Overlays
 staged_next o None = o
 staged_next o (Some n) = with_next o n
+
+-- the writes of all effects
+unfoldable pub staged_effects : Overlays → List Effect → Overlays
+staged_effects o [] = o
+staged_effects o (e ∷ es) = staged_effects (staged_effect o e) es
+
+-- all writes of a plan
+abbrev pub staged_plan : Overlays → Plan → Overlays
+staged_plan o p = staged_effects (staged_next (staged_session o p.session) p.next) p.effects

@@ -1,17 +1,14 @@
 -- The keys that a layer writes at, and those that may be written at.
-use Rattle.std.specs.Prelude.{ℕ, Bool, ◌==◌, List, [], ◌++◌, map, Option, Some, None, unwrap_or, slice_get, IsTrue}
-use Rattle.std.specs.List.{list_all, list_any}
-use Rattle.std.specs.Str.{bytes_eq}
+use Rattle.std.specs.Prelude.{ℕ, List, [], ◌++◌, map, Option, unwrap_or, slice_get, IsTrue}
+use Rattle.std.specs.List.{list_all}
 use Rattle.std.specs.declared.cmp.Ordering.{Ordering}
 use Rattle.kp_layers.specs.Layering.{Layering, staged_of}
 use Rattle.kp_model.specs.declared.node.Acl.{Acl}
 use Rattle.kp_model.specs.declared.node.Meta.{Meta}
 use Rattle.kp_model.specs.declared.session.Session.{Session}
-use Rattle.kp_model.specs.Path.{parent}
 use Rattle.kp_model.specs.Touched.{Touched}
 use Rattle.kp_cells.specs.Overlays.{Overlays}
-use Rattle.kp_prep.specs.declared.plan.Effect.{Effect}
-use Rattle.kp_prep.specs.declared.plan.Effect.TheVariants as effect
+use Rattle.kp_act.specs.Among.{is_among, is_one_of}
 
 -- the paths that a layer writes at in any part, and the sessions
 pub record Keys : Type 0 where
@@ -41,32 +38,7 @@ layer j l = unwrap_or (slice_get l.layers j) []
 abbrev pub layer_keys : ℕ → Overlays → Keys
 layer_keys j o = keys_of (layer j o.metas) (layer j o.contents) (layer j o.acls) (layer j o.children) (layer j o.owners) (layer j o.sessions)
 
--- whether the path is one of these
-abbrev pub is_among : List (List ℕ) → List ℕ → Bool
-is_among ps p = list_any (bytes_eq p) ps
-
--- whether the session is one of these
-abbrev pub is_one_of : List ℕ → ℕ → Bool
-is_one_of ids id = list_any (λ n. n == id) ids
-
 -- every key is one that is touched
 pub record AreWithin (t : Touched) (k : Keys) : Type 0 where
   pub paths : IsTrue (list_all (is_among t.paths) k.paths)
   pub sessions : IsTrue (list_all (is_one_of t.sessions) k.sessions)
-
--- a path and its parent are among these
-abbrev pub IsFamilyAmong : List (List ℕ) → List ℕ → Type 0
-IsFamilyAmong ps path = IsTrue (is_among ps path) × IsTrue (is_among ps (parent path))
-
--- an effect changes nodes at these paths alone
-abbrev pub IsEffectAmong : List (List ℕ) → Effect → Type 0
-IsEffectAmong ps effect.Nothing = Unit {0}
-IsEffectAmong ps (effect.Make path bytes acl meta up) = IsFamilyAmong ps path
-IsEffectAmong ps (effect.Remove path up owner) = IsFamilyAmong ps path
-IsEffectAmong ps (effect.Set path bytes meta) = IsTrue (is_among ps path)
-IsEffectAmong ps (effect.SetAcl path acl meta) = IsTrue (is_among ps path)
-
--- a session that is set or goes is one of these
-abbrev pub IsSessionAmong : List ℕ → Option (ℕ × Option Session) → Type 0
-IsSessionAmong ids None = Unit {0}
-IsSessionAmong ids (Some x) = IsTrue (is_one_of ids x.0)

@@ -7,15 +7,13 @@ ghost use Rattle.kp_model.specs.Good.{IsGood};
 ghost use Rattle.kp_model.specs.Path.{parent};
 ghost use Rattle.kp_model.specs.State.{State};
 ghost use Rattle.kp_model.specs.Step.{apply};
-ghost use Rattle.kp_prep.specs.Changing.{set_all, fits_change, session_changes, next_changes, effect_changes, node_changes, renumbered_value, refilled_value, relisted_value};
-ghost use Rattle.kp_prep.specs.Effects.{IsFamily, IsFit};
+ghost use Rattle.kp_prep.specs.Changing.{set_all, fits_change, session_changes, next_changes, effect_changes, node_changes, renumbered_value, refilled_value, relisted_value, plan_changes, effects_changes};
+ghost use Rattle.kp_act.specs.Effects.{IsFamily, IsFit};
 ghost use Rattle.kp_prep.specs.Ledgers.{IsLedger, nodes_behind};
-ghost use Rattle.kp_prep.specs.Plans.{plan_changes};
-ghost use Rattle.kp_prep.specs.Several.{effects_changes};
 
 use crate::entry::plan;
 use crate::ledger::{Ledger, acl, begin, change, content, end};
-use crate::plan::{Effect, Effects, Plan, Prepared};
+use kp_act::{Effect, Effects, Plan, Prepared};
 use kp_cells::{Change, Changes, NodeValue};
 use kp_model::{Acl, Acls, Bytes, Entry, Meta, NoMemory, Session, Text, View};
 use std::alloc::Global;

@@ -7,8 +7,8 @@ ghost use Rattle.kp_cells.specs.Parts.{parts_of, FitTogether};
 ghost use Rattle.kp_prep.specs.Touching.{AreWithin, staged_keys};
 
 use crate::entry::plan;
-use crate::plan::Prepared;
 use crate::stage::carry_out;
+use kp_act::Prepared;
 use kp_cells::Cells;
 use kp_model::{Entry, NoMemory};
 use std::alloc::Global;

@@ -4,12 +4,10 @@ ghost use Rattle.std.specs.Prelude.{◌≡◌, true, false, Some, None, IfOk, On
 ghost use Rattle.std.specs.List.{All};
 ghost use Rattle.kp_model.specs.Path.{parent, is_well_formed};
 ghost use Rattle.kp_cells.specs.Overlays.{IsOpen, all_begun, with_meta, with_content, with_acl, with_child};
-ghost use Rattle.kp_prep.specs.Effects.{IsFamily, IsFit};
-ghost use Rattle.kp_prep.specs.Several.{staged_effects};
-ghost use Rattle.kp_prep.specs.Plans.{staged_plan};
-ghost use Rattle.kp_prep.specs.Staged.{given_up, taken_on, staged_effect, staged_session, staged_next};
+ghost use Rattle.kp_act.specs.Effects.{IsFamily, IsFit};
+ghost use Rattle.kp_prep.specs.Staged.{staged_effects, staged_plan, given_up, taken_on, staged_effect, staged_session, staged_next};
 
-use crate::plan::{Effect, Effects, Plan, Prepared};
+use kp_act::{Effect, Effects, Plan, Prepared};
 use kp_cells::Cells;
 use kp_model::{Acls, Bytes, Meta, NoMemory, Session, Text};
 

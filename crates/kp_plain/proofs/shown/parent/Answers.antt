@@ -1,7 +1,7 @@
 use Rattle.std.proofs.Common.{ap, sym, ◌∙◌}
 use Rattle.std.specs.Option.{option_copied}
 use Rattle.kp_model.specs.Path.{parent}
-use Rattle.kp_prep.proofs.Seen.{is_root}
+use Rattle.kp_act.proofs.Seen.{is_root}
 use Rattle.kp_plain.proofs.Shows.{root_above}
 use Rattle.kp_plain.proofs.shown.parent.Goals as goal
 

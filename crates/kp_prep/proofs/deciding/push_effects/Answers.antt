@@ -2,7 +2,7 @@ use Rattle.std.proofs.Common.{sym, subst, ◌∙◌}
 use Rattle.std.specs.List.{All}
 use Rattle.std.specs.Vec.Iter.{into_iter_items}
 use Rattle.std.proofs.lemmas.List.Elements.{All-tail}
-use Rattle.kp_prep.specs.Effects.{IsFit}
+use Rattle.kp_act.specs.Effects.{IsFit}
 use Rattle.kp_prep.proofs.Carried.{more_left}
 use Rattle.kp_prep.proofs.Changes.{pushed_more, pushed_all}
 use Rattle.kp_prep.proofs.deciding.push_effects.Goals as goal

@@ -1,9 +1,9 @@
 use Rattle.std.proofs.Common.{◌≡◌, ◌++◌, length}
 use Rattle.std.specs.List.{All}
 use Rattle.std.specs.Vec.Iter.{into_iter_items, into_iter_len}
-use Rattle.kp_prep.specs.Effects.{IsFit}
+use Rattle.kp_act.specs.Effects.{IsFit}
 use Rattle.kp_prep.specs.Ledgers.{IsLedger, nodes_behind}
-use Rattle.kp_prep.specs.Several.{effects_changes}
+use Rattle.kp_prep.specs.Changing.{effects_changes}
 use Rattle.kp_prep.proofs.deciding.push_effects.Given as goal
 
 abbrev pub invariant-loop-effect : goal.invariant-loop-effect

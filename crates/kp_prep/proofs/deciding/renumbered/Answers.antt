@@ -1,7 +1,8 @@
 use Rattle.std.proofs.Common.{ap, sym, ◌∙◌}
 use Rattle.std.specs.Option.{option_copied}
 use Rattle.kp_prep.specs.Ledgers.{nodes_behind}
-use Rattle.kp_prep.proofs.Changes.{renumbered_none, refilled_again, if_same}
+use Rattle.kp_prep.proofs.Changes.{renumbered_none, refilled_again}
+use Rattle.kp_act.proofs.Acts.{if_same}
 use Rattle.kp_prep.proofs.deciding.renumbered.Goals as goal
 
 pub returns-in-None : goal.returns-in-None

@@ -5,9 +5,9 @@ use Rattle.kp_model.specs.State.{State, Sessions}
 use Rattle.kp_model.specs.Step.{act, with_seq}
 use Rattle.kp_model.specs.declared.entry.Body.TheVariants as body
 use Rattle.kp_model.specs.Touched.{touched_at}
-use Rattle.kp_prep.specs.Plans.{IsPlan}
-use Rattle.kp_prep.proofs.Closed.{acted_closed}
-use Rattle.kp_prep.proofs.Plans.{gone_again}
+use Rattle.kp_act.specs.Plans.{IsPlan}
+use Rattle.kp_draft.proofs.Closed.{acted_closed}
+use Rattle.kp_prep.proofs.Entries.{gone_again}
 use Rattle.kp_prep.proofs.entry.acted.Goals as goal
 
 pub returns-in-CloseSession : goal.returns-in-CloseSession

@@ -3,9 +3,9 @@ use Rattle.std.specs.Prelude.{IfOk}
 use Rattle.kp_model.specs.Step.{act, with_seq}
 use Rattle.kp_model.specs.State.{State}
 use Rattle.std.specs.FinMap as map
-use Rattle.kp_prep.specs.Plans.{IsPlan}
-use Rattle.kp_prep.proofs.Acts.{if_ok}
-use Rattle.kp_prep.proofs.Plans.{acted_is, touched_named}
+use Rattle.kp_act.specs.Plans.{IsPlan}
+use Rattle.kp_act.proofs.Acts.{if_ok}
+use Rattle.kp_prep.proofs.Entries.{acted_is, touched_named}
 use Rattle.kp_prep.proofs.entry.acted_on_node.Goals as goal
 
 pub returns-in-Ok : goal.returns-in-Ok

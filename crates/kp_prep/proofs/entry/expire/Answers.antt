@@ -4,9 +4,9 @@ use Rattle.kp_model.specs.Step.{expired}
 use Rattle.kp_model.specs.Touched.{touched_by}
 use Rattle.kp_model.specs.declared.entry.Body.TheVariants as body
 use Rattle.kp_model.specs.declared.reply.Reply.TheVariants as reply
-use Rattle.kp_prep.specs.Plans.{IsPlan}
-use Rattle.kp_prep.proofs.Acts.{if_ok_then}
-use Rattle.kp_prep.proofs.Plans.{expired_dead, expired_live}
+use Rattle.kp_act.specs.Plans.{IsPlan}
+use Rattle.kp_act.proofs.Acts.{if_ok_then}
+use Rattle.kp_prep.proofs.Entries.{expired_dead, expired_live}
 use Rattle.kp_prep.proofs.entry.expire.Goals as goal
 
 pub returns-in-None : goal.returns-in-None

@@ -2,9 +2,10 @@ use Rattle.std.proofs.Common.{sym, subst}
 use Rattle.kp_model.specs.declared.reply.Reply.TheVariants as reply
 use Rattle.kp_model.specs.Step.{take_body}
 use Rattle.kp_model.specs.Touched.{touched_at}
-use Rattle.kp_prep.specs.Plans.{IsPlan}
-use Rattle.kp_prep.proofs.Acts.{if_ok_then}
-use Rattle.kp_prep.proofs.Plans.{answered_is, planned_entry}
+use Rattle.kp_act.specs.Plans.{IsPlan}
+use Rattle.kp_act.proofs.Acts.{if_ok_then}
+use Rattle.kp_act.proofs.Plans.{answered_is}
+use Rattle.kp_prep.proofs.Entries.{planned_entry}
 use Rattle.kp_prep.proofs.entry.plan.Goals as goal
 
 pub returns-in-Noop : goal.returns-in-Noop

@@ -2,8 +2,8 @@ use Rattle.std.proofs.Common.{ap, sym, subst, ◌∙◌}
 use Rattle.std.specs.Option.{option_copied}
 use Rattle.kp_model.specs.declared.entry.Body.TheVariants as body
 use Rattle.kp_model.specs.Touched.{touched_at}
-use Rattle.kp_prep.specs.Plans.{IsPlan}
-use Rattle.kp_prep.proofs.Plans.{written_dead}
+use Rattle.kp_act.specs.Plans.{IsPlan}
+use Rattle.kp_prep.proofs.Entries.{written_dead}
 use Rattle.kp_prep.proofs.entry.write.Goals as goal
 
 pub returns-in-None : goal.returns-in-None

@@ -1,8 +1,8 @@
 use Rattle.std.proofs.Common.{sym, subst, ◌∙◌}
 use Rattle.kp_model.specs.declared.entry.Body.TheVariants as body
 use Rattle.kp_model.specs.Touched.{touched_at}
-use Rattle.kp_prep.specs.Plans.{IsPlan}
-use Rattle.kp_prep.proofs.Plans.{written_stale}
+use Rattle.kp_act.specs.Plans.{IsPlan}
+use Rattle.kp_prep.proofs.Entries.{written_stale}
 use Rattle.kp_prep.proofs.entry.write_of.Goals as goal
 
 pub returns-else-due : goal.returns-else-due

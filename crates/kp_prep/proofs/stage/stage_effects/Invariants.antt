@@ -2,8 +2,8 @@ use Rattle.std.proofs.Common.{◌≡◌, length}
 use Rattle.std.specs.List.{All}
 use Rattle.std.specs.Vec.Iter.{into_iter_items, into_iter_len}
 use Rattle.kp_cells.specs.Overlays.{IsOpen, all_begun}
-use Rattle.kp_prep.specs.Effects.{IsFit}
-use Rattle.kp_prep.specs.Several.{staged_effects}
+use Rattle.kp_act.specs.Effects.{IsFit}
+use Rattle.kp_prep.specs.Staged.{staged_effects}
 use Rattle.kp_prep.proofs.stage.stage_effects.Given as goal
 
 abbrev pub invariant-loop-effect : goal.invariant-loop-effect

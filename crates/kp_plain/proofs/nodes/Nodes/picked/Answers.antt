@@ -2,7 +2,7 @@ use Rattle.std.proofs.Common.{sym, ap, ◌∙◌}
 use Rattle.std.specs.FinMap as map
 use Rattle.std.specs.List.{filter}
 use Rattle.kp_model.specs.State.{path_cmp}
-use Rattle.kp_prep.proofs.Changes.{if_same}
+use Rattle.kp_act.proofs.Acts.{if_same}
 use Rattle.kp_plain.specs.Picked.{picks}
 use Rattle.kp_plain.proofs.Listing.{paths_in}
 use Rattle.kp_plain.proofs.SortedMap.{keys_sorted}

@@ -3,7 +3,7 @@ use Rattle.std.specs.Prelude.{map}
 use Rattle.std.specs.FinMap.{keys}
 use Rattle.std.specs.Ordering.{nat_cmp}
 use Rattle.kp_model.specs.declared.session.Session.{Session}
-use Rattle.kp_prep.proofs.Acts.{if_ok_then}
+use Rattle.kp_act.proofs.Acts.{if_ok_then}
 use Rattle.kp_plain.proofs.SortedMap.{keys_sorted}
 use Rattle.kp_plain.proofs.sessions.Sessions.numbers.Goals as goal
 

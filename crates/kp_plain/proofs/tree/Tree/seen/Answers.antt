@@ -2,7 +2,7 @@ use Rattle.std.proofs.Common.{sym, ap, ◌∙◌}
 use Rattle.std.specs.Option.{option_copied}
 use Rattle.std.specs.FinMap as map
 use Rattle.kp_model.specs.State.{State, meta_at}
-use Rattle.kp_prep.proofs.Seen.{meta_none}
+use Rattle.kp_act.proofs.Seen.{meta_none}
 use Rattle.kp_plain.proofs.Shows.{seen_none, seen_some}
 use Rattle.kp_plain.proofs.tree.Tree.seen.Goals as goal
 

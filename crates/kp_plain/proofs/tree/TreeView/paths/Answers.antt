@@ -1,7 +1,7 @@
 use Rattle.std.proofs.Common.{ap, ◌∙◌}
 use Rattle.std.specs.FinMap as map
 use Rattle.kp_model.specs.State.{State}
-use Rattle.kp_prep.proofs.Changes.{if_same}
+use Rattle.kp_act.proofs.Acts.{if_same}
 use Rattle.kp_plain.proofs.Listing.{every}
 use Rattle.kp_plain.proofs.tree.TreeView.paths.Goals as goal
 

@@ -1,0 +1,7 @@
+pub mod Paths
+pub mod Kids
+pub mod Owners
+pub mod Outcomes
+pub mod Seen
+pub mod Acts
+pub mod Plans

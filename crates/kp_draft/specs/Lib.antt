@@ -1,0 +1,4 @@
+pub mod Drafts
+pub mod Behind
+pub mod Closing
+pub mod Multis

@@ -1,5 +1,0 @@
-use Rattle.kp_prep.proofs.Drafted.{draft_blank}
-use Rattle.kp_prep.proofs.draft.blank.Goals as goal
-
-pub returns-clause-draft : goal.returns-clause-draft
-returns-clause-draft c = λ nodes. draft_blank nodes c.new.result c.new-2.result.entries c.new.ensures c.new-2.ensures.empty

@@ -1,5 +1,5 @@
 -- What is found to be done, and what it does to the parts of a state.
-use Rattle.std.specs.Prelude.{◌≡◌, ℕ, Bool, true, false, ◌+◌, ◌==◌, min, List, [], ◌∷◌, length, Option, Some, None, IsTrue, IsSome, if◌then◌else◌}
+use Rattle.std.specs.Prelude.{◌≡◌, ℕ, Bool, true, false, ◌+◌, ◌==◌, min, List, [], ◌∷◌, length, Some, None, IsTrue, IsSome, if◌then◌else◌}
 use Rattle.std.specs.Str.{bytes_eq}
 use Rattle.std.specs.FinMap as map
 use Rattle.kp_model.specs.declared.node.Acl.{Acl}

@@ -1,6 +1,6 @@
 -- What is known of the nodes behind some effects.
 use Rattle.std.proofs.Common.{◌≡◌, ℕ, ◌-◌, Bool, true, false, cond, List, [], ◌∷◌, ◌++◌, length, min, Option, Some, None, IsSome, is_some, refl, ap, sym, subst, ◌∙◌, arith, ◌<◌}
-use Rattle.std.specs.Prelude.{map, unwrap_or, String, Result, Ok, Err, OnOk}
+use Rattle.std.specs.Prelude.{unwrap_or, String, Result, Ok, Err, OnOk}
 use Rattle.std.specs.Option.{option_map}
 use Rattle.std.specs.Ordering.{eq_by_cmp, is_eq}
 use Rattle.std.specs.Str.{bytes_eq}
@@ -9,14 +9,14 @@ use Rattle.std.proofs.lemmas.Cmp.{tied_itself}
 use Rattle.std.proofs.lemmas.Slice.Eq.{bytes_eq-Decides}
 use Rattle.kp_model.specs.declared.node.Meta.{Meta}
 use Rattle.kp_model.specs.declared.node.Node.{Node}
-use Rattle.kp_model.specs.Path.{root, parent}
+use Rattle.kp_model.specs.Path.{parent}
 use Rattle.kp_model.specs.State.{Nodes, path_cmp, blank_node, children, meta_at, meta_of, stat}
 use Rattle.kp_model.specs.Step.{shrunk, without_child}
 use Rattle.kp_cells.proofs.Maps.{no, tied}
 use Rattle.kp_draft.specs.declared.draft.Known.{Known}
 use Rattle.kp_act.specs.declared.plan.Effect.{Effect}
 use Rattle.kp_act.specs.declared.plan.Effect.TheVariants as effect
-use Rattle.kp_draft.specs.Drafts.{IsKnown, IsSame, Tells, IsDraft, known_at, up_left, removal}
+use Rattle.kp_draft.specs.Drafts.{IsKnown, IsSame, Tells, IsDraft, known_at, removal}
 use Rattle.kp_act.specs.Effects.{IsChildPath, effected_nodes, without_child_shown}
 use Rattle.kp_act.specs.Several.{effected_nodes_by}
 use Rattle.kp_act.proofs.Acts.{shown_kids}

@@ -1,6 +1,6 @@
 -- The nodes that a session owns, while they go one after the other.
-use Rattle.std.proofs.Common.{◌≡◌, ℕ, ◌-◌, ◌≤◌, Bool, true, false, not, cond, ◌&&◌, List, [], ◌∷◌, length, min, Option, Some, None, IsSome, is_some, refl, ap, sym, subst, ◌∙◌, arith}
-use Rattle.std.specs.Prelude.{◌==◌, map, T, unwrap_or, IsTrue}
+use Rattle.std.proofs.Common.{◌≡◌, ℕ, ◌≤◌, Bool, true, false, cond, ◌&&◌, List, [], ◌∷◌, Option, Some, None, IsSome, refl, ap, sym, ◌∙◌, arith}
+use Rattle.std.specs.Prelude.{◌==◌, map, T}
 use Rattle.std.specs.List.{AllByRecursion, IsDistinct, filter}
 use Rattle.std.specs.List.Sorted.{IsStrictlySortedBy}
 use Rattle.std.specs.Option.{option_map_or}
@@ -18,13 +18,12 @@ use Rattle.std.proofs.lemmas.Map.Keys.{IsDistinct-from_sorted}
 use Rattle.std.proofs.lemmas.Slice.Eq.{bytes_eq-Decides}
 use Rattle.kp_model.specs.declared.node.Node.{Node}
 use Rattle.kp_model.specs.declared.session.Session.{Session}
-use Rattle.kp_model.specs.Good.{IsGood, IsPersistent}
+use Rattle.kp_model.specs.Good.{IsGood}
 use Rattle.kp_model.specs.Path.{root, parent}
 use Rattle.kp_model.specs.State.{State, Nodes, is_owned, owned, path_cmp}
 use Rattle.kp_model.specs.Step.{changed, shrunk, without_child}
-use Rattle.kp_cells.proofs.Maps.{no, not_some, tied}
+use Rattle.kp_cells.proofs.Maps.{no, tied}
 use Rattle.kp_draft.specs.Closing.{IsLeaf, AreLeaves}
-use Rattle.kp_act.specs.Effects.{IsFamily}
 use Rattle.kp_act.proofs.Acts.{formed}
 use Rattle.kp_act.proofs.Paths.{path_total, path_same}
 

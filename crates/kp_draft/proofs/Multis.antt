@@ -1,7 +1,7 @@
 -- The operations of a multi, one after the other.
 use Rattle.std.proofs.Common.{◌≡◌, ℕ, zero, suc, ◌+◌, ◌-◌, ◌<◌, ◌≤◌, Bool, true, false, ◌||◌, List, [], ◌∷◌, ◌++◌, length, Option, Some, None, is_some, refl, ap, sym, subst, ◌∙◌, arith}
 use Rattle.std.specs.Prelude.{ℤ, map, IsTrue}
-use Rattle.std.specs.List.{All, list_any, list_all}
+use Rattle.std.specs.List.{All}
 use Rattle.std.specs.Option.{option_map_or}
 use Rattle.std.specs.Str.{bytes_eq}
 use Rattle.std.specs.FinMap as fin
@@ -14,14 +14,11 @@ use Rattle.kp_model.specs.declared.command.Cmd.TheVariants as cmd
 use Rattle.kp_model.specs.declared.entry.Body.TheVariants as body
 use Rattle.kp_model.specs.declared.reply.Event.{Event}
 use Rattle.kp_model.specs.declared.reply.OpReply.{OpReply}
-use Rattle.kp_model.specs.declared.reply.Reply.{Reply}
-use Rattle.kp_model.specs.declared.reply.Reply.TheVariants as reply
 use Rattle.kp_model.specs.declared.session.Session.{Session}
-use Rattle.kp_model.specs.Grammar.{fits_op}
 use Rattle.kp_model.specs.Path.{parent}
-use Rattle.kp_model.specs.State.{State, Nodes, Sessions}
+use Rattle.kp_model.specs.State.{State, Nodes}
 use Rattle.kp_model.specs.Step.{Outcome, replies, act, act_on, error_of, op_reply, failure, stop_at, multi, with_seq}
-use Rattle.kp_model.specs.Touched.{Touched, with_parents, path_of_op, paths_of_ops, ids_of, touched_at, touched_in}
+use Rattle.kp_model.specs.Touched.{Touched, with_parents, path_of_op, paths_of_ops, ids_of, touched_at}
 use Rattle.kp_cells.specs.Parts.{Parts, parts_of}
 use Rattle.kp_cells.proofs.Maps.{no}
 use Rattle.kp_act.specs.declared.plan.Act.{Act}

@@ -1,6 +1,6 @@
 -- Each operation keeps the places of the nodes: whatever is there has a parent that may have children.
 use Rattle.std.proofs.Common.{◌≡◌, ℕ, Bool, true, false, not, cond, ◌&&◌, length, List, [], Option, Some, None, is_some, IsTrue, refl, sym, ap, subst, ◌∙◌, true≢false, eqb-true}
-use Rattle.std.specs.Prelude.{ℤ, ◌==◌, nat_le, unwrap_or}
+use Rattle.std.specs.Prelude.{ℤ, nat_le, unwrap_or}
 use Rattle.std.specs.Str.{bytes_eq}
 use Rattle.std.specs.FinMap as map
 use Rattle.std.proofs.lemmas.Slice.Eq.{bytes_eq-Decides}

@@ -1,7 +1,6 @@
 -- What an effect tells of each path is what is there behind it.
-use Rattle.std.proofs.Common.{◌≡◌, ℕ, ◌+◌, ◌-◌, Bool, true, false, cond, List, [], ◌∷◌, ◌++◌, length, Option, Some, None, IsSome, is_some, refl, ap, sym, subst, ◌∙◌}
+use Rattle.std.proofs.Common.{◌≡◌, ℕ, ◌+◌, ◌-◌, Bool, true, false, cond, List, [], ◌∷◌, ◌++◌, Option, Some, None, IsSome, refl, ap, sym, subst, ◌∙◌}
 use Rattle.std.specs.Prelude.{unwrap_or, String, Result, Ok, Err, OnOk, IfOk}
-use Rattle.std.specs.Option.{option_map}
 use Rattle.std.specs.Ordering.{eq_by_cmp, is_eq}
 use Rattle.std.specs.Str.{bytes_eq}
 use Rattle.std.specs.FinMap as fin
@@ -12,7 +11,7 @@ use Rattle.kp_model.specs.declared.node.Meta.{Meta}
 use Rattle.kp_model.specs.declared.node.Node.{Node}
 use Rattle.kp_model.specs.Path.{root, parent}
 use Rattle.kp_model.specs.Poured.{node_of}
-use Rattle.kp_model.specs.State.{State, Nodes, path_cmp, children, meta_at, acl_at, stat}
+use Rattle.kp_model.specs.State.{State, Nodes, path_cmp, meta_at, acl_at, stat}
 use Rattle.kp_model.specs.Step.{Outcome, changed}
 use Rattle.kp_cells.specs.Parts.{Parts, parts_of}
 use Rattle.kp_cells.proofs.Maps.{no, tied, get-mapped}
@@ -23,7 +22,7 @@ use Rattle.kp_act.specs.declared.plan.Effect.TheVariants as effect
 use Rattle.kp_draft.specs.Behind.{brood, meta_behind, brood_behind, acl_behind, Tells, list_at, Notes, NotesOne, Lists, IsBehind}
 use Rattle.kp_draft.specs.Drafts.{IsKnown, IsSame, IsDraft, known_at}
 use Rattle.kp_draft.specs.Drafts as drafts
-use Rattle.kp_act.specs.Effects.{IsChildPath, IsFamily, IsFit, IsOn, Suits, IsAct, effected, effected_nodes, renumbered}
+use Rattle.kp_act.specs.Effects.{IsFamily, IsFit, IsOn, Suits, IsAct, effected, effected_nodes}
 use Rattle.kp_act.specs.Several.{effected_nodes_by}
 use Rattle.kp_draft.proofs.Drafted.{effected-push, draft_told, still, kept_some, kept_none}
 use Rattle.kp_act.proofs.Kids.{count-over, count_up-made, count_else-made, count_up-gone, count_else-gone}

@@ -1,4 +1,4 @@
-use Rattle.std.proofs.Common.{List, ℕ, sym, subst, ◌∙◌}
+use Rattle.std.proofs.Common.{sym, subst, ◌∙◌}
 use Rattle.kp_model.specs.State.{State}
 use Rattle.kp_draft.specs.Closing.{AreLeaves}
 use Rattle.kp_draft.proofs.Closed.{closing_does}

@@ -1,12 +1,6 @@
-use Rattle.std.proofs.Common.{◌+◌, take, ap, sym, subst, ◌∙◌}
+use Rattle.std.proofs.Common.{ap, sym, ◌∙◌}
 use Rattle.std.specs.Prelude.{is_some}
-use Rattle.std.specs.FinMap as map
-use Rattle.kp_model.specs.Path.{parent}
-use Rattle.kp_model.specs.State.{Nodes}
-use Rattle.kp_draft.specs.Closing.{IsLeaf}
-use Rattle.kp_draft.specs.Drafts.{removal, removals}
-use Rattle.kp_act.specs.Several.{effected_nodes_by}
-use Rattle.kp_draft.proofs.Removals.{leaf_now, leaf_next, removals_none, removals_next}
+use Rattle.kp_draft.proofs.Removals.{leaf_next, removals_none, removals_next}
 use Rattle.kp_draft.proofs.closing.remove_all.Goals as goal
 
 pub loop-path-init : goal.loop-path-init

@@ -1,5 +1,4 @@
 use Rattle.std.proofs.Common.{sym}
-use Rattle.kp_draft.specs.Drafts.{IsDraft}
 use Rattle.kp_act.specs.Several.{effected_nodes_by}
 use Rattle.kp_draft.proofs.Drafted.{unseen, on_ok_both, draft_removed}
 use Rattle.kp_draft.proofs.draft.remove_under.Goals as goal

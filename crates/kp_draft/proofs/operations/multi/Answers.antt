@@ -1,4 +1,4 @@
-use Rattle.std.proofs.Common.{length, ap, subst, sym, ◌∙◌}
+use Rattle.std.proofs.Common.{ap, subst, ◌∙◌}
 use Rattle.kp_model.specs.State.{State}
 use Rattle.kp_model.specs.Step.{with_seq}
 use Rattle.kp_draft.specs.Multis.{IsEnd, multi_plan}

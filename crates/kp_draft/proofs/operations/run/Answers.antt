@@ -1,7 +1,5 @@
-use Rattle.std.proofs.Common.{refl, sym, subst, ◌∙◌}
-use Rattle.std.specs.Prelude.{None, Some}
+use Rattle.std.proofs.Common.{refl, sym, ◌∙◌}
 use Rattle.kp_model.specs.State.{State}
-use Rattle.kp_draft.specs.Multis.{IsStep, IsEnd}
 use Rattle.kp_draft.proofs.Multis.{runs_none, run_places, runs_on, runs_stop, runs_all}
 use Rattle.kp_draft.proofs.operations.run.Goals as goal
 

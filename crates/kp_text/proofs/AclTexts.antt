@@ -102,7 +102,7 @@ acl_read w a part e =
 digit_no_colon : (b : ℕ) → is_ascii_digit b ≡ true → not (is_colon b) ≡ true
 digit_no_colon b h = grind (arith, nat_tests, h)
 
-small_int : (n : ℕ) → is_int n ≡ true → n < 2 ^ 64
+pub small_int : (n : ℕ) → is_int n ≡ true → n < 2 ^ 64
 small_int n h = let le = within_int n h in omega (arith, le)
 
 decimal_no_colon : (n : ℕ) → is_int n ≡ true → has_no_colon (decimal n) ≡ true

@@ -14,3 +14,4 @@ mod MultiTexts
 mod MultiSteps
 mod CommandTexts
 mod LineTexts
+mod Shaped

@@ -31,7 +31,7 @@ use lib.Chars.{codes}
 number_fits : (n : ℕ) → n ≤ limit → is_number n ≡ true
 number_fits n h = grind (arith, nat_tests, h)
 
-number_small : (n : ℕ) → is_number n ≡ true → n ≤ limit
+pub number_small : (n : ℕ) → is_number n ≡ true → n ≤ limit
 number_small n h = grind (arith, nat_tests, h)
 
 number_read : (a : List ℕ) (n : ℕ) → number_of limit a ≡ Some n → (a ≡ decimal n) × (is_number n ≡ true)
@@ -46,7 +46,7 @@ number_part n h = decimal_part n (let small = number_small n h in omega (arith, 
 timeout_fits : (n : ℕ) → nat_le 10000 n ≡ true → n ≤ 100000 → is_timeout n ≡ true
 timeout_fits n low high = both (nat_le 10000 n) (nat_le n 100000) low (grind (arith, nat_tests, high))
 
-timeout_small : (n : ℕ) → is_timeout n ≡ true → n ≤ 100000
+pub timeout_small : (n : ℕ) → is_timeout n ≡ true → n ≤ 100000
 timeout_small n h = let high = right (nat_le 10000 n) (nat_le n 100000) h in grind (arith, nat_tests, high)
 
 timeout_back : (n : ℕ) → is_timeout n ≡ true → number_of 100000 (decimal n) ≡ Some n
@@ -217,7 +217,7 @@ of_name_read : (name : List ℕ) (ws : List (List ℕ)) (l : StoreLine) → list
 of_name_read name [] l p e = bare_read name l e
 of_name_read name (w ∷ ws) l p e = entry_read name (w ∷ ws) l p e
 
-words_read : (ws : List (List ℕ)) (l : StoreLine) → list_all is_part ws ≡ true → of_words ws ≡ Some l → IsWordsOf ws l
+pub words_read : (ws : List (List ℕ)) (l : StoreLine) → list_all is_part ws ≡ true → of_words ws ≡ Some l → IsWordsOf ws l
 unfolding of_words
 words_read [] l p e = absurd (cc)
 words_read (name ∷ ws) l p e = elim (either_way (is_numbered name) (numbered_line name ws) _ l e) [

@@ -27,7 +27,7 @@ number_is_spelled most n w fits e =
     let spelled = decimal-digits_value own w (left _ _ numeral) (some w (left _ _ (right _ _ numeral))) (one_or_not_zero w (right _ _ (right _ _ numeral))) (omega (arith, small, fits)) in
     (sym spelled ∙ ap decimal c.1, subst (λ k. k ≤ most) c.1 small)
 
-not_empty : (bs : List ℕ) → 0 < length bs → not (is_empty bs) ≡ true
+pub not_empty : (bs : List ℕ) → 0 < length bs → not (is_empty bs) ≡ true
 not_empty [] h = absurd (omega arith)
 not_empty (b ∷ bs) h = refl
 

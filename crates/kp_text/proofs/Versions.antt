@@ -56,7 +56,7 @@ any_is_read : version_of (codes "-1") ≡ Some any_version
 unfolding version_of
 any_is_read = refl
 
-within : (v : ℕ) → is_asked v ≡ true → (v == any_version) ≡ false → v ≤ int_limit
+pub within : (v : ℕ) → is_asked v ≡ true → (v == any_version) ≡ false → v ≤ int_limit
 within v h other = grind (arith, nat_tests, h, other)
 
 read_case : (v : ℕ) (b : Bool) → is_asked v ≡ true → (v == any_version) ≡ b → version_of (cond b (codes "-1") (decimal v)) ≡ Some v

@@ -7,6 +7,7 @@ mod command;
 mod fail;
 mod line;
 mod print;
+mod shape;
 mod words;
 
 pub use command::{Command, Operation, Operations};

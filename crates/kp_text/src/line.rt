@@ -4,6 +4,7 @@ ghost use Rattle.kp_text.specs.Lines.{one_number as one_number_in, one_path as o
 
 use crate::command::{Command, command_of};
 use crate::fail::LineFail;
+use crate::shape::may_be_a_line;
 use crate::words::{LIMIT, number_of, passwd_of, path_of, words_of};
 use kp_model::{NoMemory, Text};
 use std::alloc::Global;
@@ -314,6 +315,9 @@ fn line_in(alloc: Global, text: &[u8]) -> Result<Option<StoreLine>, NoMemory>
     match str::from_utf8(text) {
         Err(_) => Ok(None),
         Ok(line) => {
+            if !may_be_a_line(line) {
+                return Ok(None);
+            }
             let words = words_of(alloc, line)?;
             of_words(alloc, words.as_slice())
         }

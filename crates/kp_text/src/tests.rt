@@ -4,7 +4,7 @@ use std::alloc::Global;
 use std::test::Fail;
 
 /// Texts that are no line.
-const BAD: [&[u8]; 78] = [
+const BAD: [&[u8]; 88] = [
     b"",
     b" ",
     b"noop ",
@@ -83,10 +83,20 @@ const BAD: [&[u8]; 78] = [
     b"multi 1 raw 1 1 1 close",
     b"raw 1 1 1 multi ;",
     b"raw 1 1 1 multi 1",
+    b"          ",
+    b"create 1 /a 0 - 1::a 2::b  3::c 4::d",
+    b"multi 1 check /a 0 ;  check /b 0",
+    b"raw 1 1 1 multi check /a 0 ; check /b 0 ",
+    b"noop 0 0 0 0 0 0 0 0",
+    b"set 1 /a - 0 0 0 0 0 0",
+    b"raw 1 1 1 set /a - 0 0",
+    b"raw 1 1 1 close 0 0 0 0",
+    b"check 1 /a 0 multi 0 0 0 0",
+    b"raw raw 1 1 check create setacl multi 0 0",
 ];
 
 /// Lines.
-const GOOD: [&[u8]; 30] = [
+const GOOD: [&[u8]; 34] = [
     b"time 4611686018427387904",
     b"open 10000 00000000000000000000000000000000",
     b"attach 0 000102030405060708090a0b0c0d0e0f",
@@ -117,6 +127,10 @@ const GOOD: [&[u8]; 30] = [
     b"raw 1 1 1 multi",
     b"raw 1 1 1 multi check ;; 0 ; check /a 0",
     b"delete 1 ; 0",
+    b"raw 1 1 1 set /a - 0",
+    b"create 1 /a 0 - 1::a 2::b 3::c 4::d",
+    b"setacl 1 /a 0 1::a 2::b 3::c 4::d 5::e",
+    b"raw 1 1 1 setacl /a 0 1::a 2::b 3::c",
 ];
 
 /// Whether these bytes are a line.

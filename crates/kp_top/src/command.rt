@@ -1,5 +1,5 @@
 ghost use Rattle.std.specs.Prelude.{◌≡◌, ◌<◌, ◌≤◌, ◌↔◌, false, true, List, ℕ, length, Some, None, IfSome, map, string_bytes};
-ghost use Rattle.std.specs.Io.KnownBytes.{Keeps, IsAtEnd};
+ghost use Rattle.std.specs.Io.KnownBytes.{IsAtEnd};
 ghost use Rattle.kp_io.specs.Faults.{one_more, Rose};
 ghost use Rattle.kp_top.specs.Output.{WroteAll, WrotePart, TookMore, TookWithin};
 ghost use Rattle.kp_top.specs.Transcript.{transcript, bad_line};
@@ -57,9 +57,9 @@ pub fn run_command<S: Source, W: Sink, H: Disk>(
     ensures write_fault { result ≡ Status.WriteFault → W.faults output.new ≡ one_more (W.faults output.old) }
     ensures no_write_fault { (result ≡ Status.WriteFault → ⊥) → W.faults output.new ≡ W.faults output.old }
 
-    // Whatever comes, no more than a beginning of the transcript was written, and nothing before the lines.
+    // Whatever comes, no more than a beginning of the transcript was written; before the lines the output isn't touched.
     ensures part { IfSome (S.left input.old) (λ text. WrotePart (W.held output.old) (W.held output.new) (transcript text)) }
-    ensures nothing { IsBeforeLines result → Keeps (W.held output.old) (W.held output.new) }
+    ensures nothing { IsBeforeLines result → output.new ≡ output.old }
     ensures others { IsOfStore result }
 
     // Where nothing of this stands against it, all is done, the bad line is named, or the input is too long; or memory ran out.

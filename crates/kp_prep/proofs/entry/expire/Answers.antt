@@ -1,9 +1,7 @@
 use Rattle.std.proofs.Common.{ap, sym, subst, refl, ◌∙◌}
 use Rattle.std.specs.Option.{option_copied}
-use Rattle.kp_model.specs.Step.{expired}
 use Rattle.kp_model.specs.Touched.{touched_by}
 use Rattle.kp_model.specs.declared.entry.Body.TheVariants as body
-use Rattle.kp_model.specs.declared.reply.Reply.TheVariants as reply
 use Rattle.kp_act.specs.Plans.{IsPlan}
 use Rattle.kp_act.proofs.Acts.{if_ok_then}
 use Rattle.kp_prep.proofs.Entries.{expired_dead, expired_live}

@@ -1,9 +1,8 @@
-use Rattle.std.proofs.Common.{sym, ap, subst, ◌∙◌}
+use Rattle.std.proofs.Common.{sym, subst, ◌∙◌}
 use Rattle.std.specs.List.{All}
 use Rattle.std.specs.Vec.Iter.{into_iter_items}
 use Rattle.std.proofs.lemmas.List.Elements.{All-tail}
 use Rattle.kp_act.specs.Effects.{IsFit}
-use Rattle.kp_prep.specs.Staged.{staged_effects}
 use Rattle.kp_prep.proofs.Carried.{staged_more, staged_none, more_left}
 use Rattle.kp_prep.proofs.stage.stage_effects.Goals as goal
 

@@ -147,7 +147,8 @@ impl PlainStore {
 
     /// The index of the last entry.
     pub fn last(&self) -> u64
-        ensures { result ≡ last_of self.now }
+        ensures index { result ≡ last_of self.now }
+        ensures limit { result ≤ 2 ^ 62 }
     {
         self.state.applied() + self.unapplied.len() as u64
     }

@@ -7,7 +7,7 @@ ghost use Rattle.kp_model.specs.State.{meta_at, bytes_at};
 ghost use Rattle.kp_model.specs.LogEntry.{LogEntry};
 ghost use Rattle.kp_model.specs.Touched.{touched};
 ghost use Rattle.kp_model.specs.Store.{after, latest as latest_of, last as last_of, empty, with_entry, kept as kept_of, truncated, commit_answer, commit_leaves};
-ghost use Rattle.kp_cells.specs.Parts.{parts_of};
+ghost use Rattle.kp_cells.specs.Parts.{parts_of, FitTogether};
 ghost use Rattle.kp_cells.specs.Overlays.{IsClosed, depth, committed_parts, latest_parts, committed_state, latest_state};
 ghost use Rattle.kp_prep.specs.Touching.{AreWithin, layer_keys};
 ghost use Rattle.kp_storage.specs.Kept.{IsLayered};
@@ -248,6 +248,8 @@ impl Storage {
         ensures latest { latest_state result.now ≡ latest_of self.now }
         ensures committed_parts { committed_parts result.now ≡ parts_of self.now.state }
         ensures latest_parts { latest_parts result.now ≡ parts_of (latest_of self.now) }
+        ensures committed_fits { FitTogether (committed_parts result.now) }
+        ensures latest_fits { FitTogether (latest_parts result.now) }
         ensures touches { (k : ℕ) (e : LogEntry) → slice_get self.now.unapplied k ≡ Some e → AreWithin (touched (after self.now.state (take k self.now.unapplied)) e) (layer_keys k result.now) }
     {
         &self.cells

@@ -6,7 +6,14 @@ use Rattle.kp_model.specs.Store.{Store, after}
 use Rattle.kp_cells.specs.Parts.{parts_of}
 use Rattle.kp_storage.specs.Kept.{IsLayered}
 use Rattle.kp_storage.proofs.Keeping.{latest_state_is, committed_parts_are}
+use Rattle.kp_storage.proofs.Shown.{latest_fit, committed_fit}
 use Rattle.kp_storage.proofs.storage.Storage.cells.Goals as goal
+
+pub returns-clause-committed_fits : goal.returns-clause-committed_fits
+returns-clause-committed_fits c = committed_fit c.self.inside.cells c.self.inside.entries.items c.self.inside.answers.items c.self.invariant
+
+pub returns-clause-latest_fits : goal.returns-clause-latest_fits
+returns-clause-latest_fits c = latest_fit c.self.inside.cells c.self.inside.entries.items c.self.inside.answers.items c.self.invariant
 
 pub returns-clause-latest : goal.returns-clause-latest
 returns-clause-latest c = latest_state_is c.self.inside.cells c.self.inside.entries.items c.self.inside.answers.items c.self.invariant ∙ ap (λ (x : Store). after x.state x.unapplied) c.self.view_is

@@ -4,6 +4,7 @@
 
 mod acl;
 mod command;
+mod copy;
 mod fail;
 mod line;
 mod print;

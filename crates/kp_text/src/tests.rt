@@ -1,4 +1,4 @@
-use crate::{LineFail, read_store_line};
+use crate::{LineFail, StoreLine, read_store_line};
 use kp_model::NoMemory;
 use std::alloc::Global;
 use std::test::Fail;
@@ -96,7 +96,7 @@ const BAD: [&[u8]; 88] = [
 ];
 
 /// Lines.
-const GOOD: [&[u8]; 34] = [
+const GOOD: [&[u8]; 40] = [
     b"time 4611686018427387904",
     b"open 10000 00000000000000000000000000000000",
     b"attach 0 000102030405060708090a0b0c0d0e0f",
@@ -131,6 +131,12 @@ const GOOD: [&[u8]; 34] = [
     b"create 1 /a 0 - 1::a 2::b 3::c 4::d",
     b"setacl 1 /a 0 1::a 2::b 3::c 4::d 5::e",
     b"raw 1 1 1 setacl /a 0 1::a 2::b 3::c",
+    b"noop",
+    b"commit",
+    b"peek /a",
+    b"kids /",
+    b"ls /",
+    b"set 1 /a 00ff 7",
 ];
 
 /// Whether these bytes are a line.
@@ -153,15 +159,43 @@ fn are_all(alloc: Global, texts: &[&[u8]], lines: bool) -> Result<bool, NoMemory
     Ok(all)
 }
 
-/// Whether the lines are taken and the other texts refused.
+/// Whether two lines print alike, with all that they hold.
+fn are_alike(alloc: Global, one: &StoreLine, other: &StoreLine) -> Result<bool, NoMemory> {
+    let one = format!(in alloc; "{one:?}")?;
+    let other = format!(in alloc; "{other:?}")?;
+    Ok(one.as_str() == other.as_str())
+}
+
+/// Whether these bytes are a line whose copy equals it.
+fn is_copied(alloc: Global, line: &[u8]) -> Result<bool, NoMemory> {
+    match read_store_line(alloc, line) {
+        Ok(line) => are_alike(alloc, &line.copy(alloc)?, &line),
+        Err(LineFail::BadLine) => Ok(false),
+        Err(LineFail::NoMemory) => Err(NoMemory),
+    }
+}
+
+/// Whether each of the texts is a line whose copy equals it.
+fn are_copied(alloc: Global, texts: &[&[u8]]) -> Result<bool, NoMemory> {
+    let mut all = true;
+    for text in texts {
+        if !is_copied(alloc, text)? {
+            all = false;
+        }
+    }
+    Ok(all)
+}
+
+/// Whether the lines are taken and copied, and the other texts refused.
 fn run_texts(alloc: Global) -> Result<bool, NoMemory> {
     let good = are_all(alloc, GOOD.as_slice(), true)?;
     let bad = are_all(alloc, BAD.as_slice(), false)?;
-    Ok(good && bad)
+    let copied = are_copied(alloc, GOOD.as_slice())?;
+    Ok(good && (bad && copied))
 }
 
 #[test]
-fn lines_are_taken_and_other_texts_refused(rt: HostRuntime) -> Result<(), Fail> {
+fn lines_are_taken_and_copied_and_other_texts_refused(rt: HostRuntime) -> Result<(), Fail> {
     let all = run_texts(rt.alloc())?;
     assert_eq!(rt; all, true);
     Ok(())

@@ -79,7 +79,7 @@ impl ConnectRequest {
     }
 }
 
-fn copy_bytes(alloc: Global, bytes: &Option<Bytes>) -> Result<Option<Bytes>, NoMemory>
+pub fn copy_bytes(alloc: Global, bytes: &Option<Bytes>) -> Result<Option<Bytes>, NoMemory>
     ensures { IfOk result (λ made. made ≡ bytes.now) }
 {
     match bytes {

@@ -92,7 +92,7 @@ fn read_rest(alloc: Global, reader: &mut Reader<'_>) -> Result<Bytes, JuteFail>
     Ok(Bytes::from_vec(Vec::from_slice(alloc, rest)?))
 }
 
-fn ask_of_op(op: WireOp) -> WireAsk
+pub fn ask_of_op(op: WireOp) -> WireAsk
     ensures { result ≡ form.ask_of_op op }
 {
     match op {
@@ -132,7 +132,7 @@ fn ask_of_op(op: WireOp) -> WireAsk
     }
 }
 
-fn look(kind: LookKind, fields: Watched) -> WireAsk
+pub fn look(kind: LookKind, fields: Watched) -> WireAsk
     ensures { result ≡ look_of kind fields }
 {
     let Watched { path, watch } = fields;

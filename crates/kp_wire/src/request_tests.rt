@@ -111,16 +111,16 @@ fn multi(alloc: Global) -> Result<WireAsk, NoMemory> {
     Ok(WireAsk::Multi { ops })
 }
 
-// The frame is read as the request, and the request is written as the frame.
+// The frame is read as the request, the request is written as the frame, and its copy equals it.
 fn shows(rt: &impl Abort, alloc: Global, frame: &[u8], xid: i32, ask: WireAsk) -> Result<(), Fail> {
     let wanted = Request { xid, ask };
+    let printed = format!(in alloc; "{wanted:?}")?;
     let found = read_request(alloc, frame)?;
-    assert_eq!(rt;
-        format!(in alloc; "{found:?}")?,
-        format!(in alloc; "{wanted:?}")?
-    );
+    assert_eq!(rt; format!(in alloc; "{found:?}")?, printed);
     let written = write_request(alloc, &wanted)?;
     assert_eq!(rt; written.as_slice(), frame);
+    let copy = wanted.copy(alloc)?;
+    assert_eq!(rt; format!(in alloc; "{copy:?}")?, printed);
     Ok(())
 }
 

@@ -4,7 +4,7 @@ ghost use Rattle.kp_model.specs.State.{meta_of, blank_node, open_acl};
 ghost use Rattle.kp_cells.specs.Parts.{FitTogether};
 ghost use Rattle.kp_cells.specs.Overlays.{IsOpen, IsClosed, latest_parts, committed_parts, settled, root_parts, with_meta, with_content, with_acl, with_child, with_owned, with_session, with_next};
 
-use crate::Cells;
+use crate::{Cells, Change, Changes, NodeValue};
 use kp_model::{Acl, Acls, Bytes, Meta, NoMemory, Origin, Paths, Session, Text, View};
 use std::alloc::Global;
 use std::test::Fail;
@@ -273,5 +273,33 @@ fn run_layers(alloc: Global) -> Result<bool, NoMemory> {
 fn layers_of_writes_come_and_go(rt: HostRuntime) -> Result<(), Fail> {
     let told = run_layers(rt.alloc())?;
     assert!(rt; told);
+    Ok(())
+}
+
+// A change of each kind.
+fn changes(alloc: Global) -> Result<Changes, NoMemory> {
+    let node = NodeValue {
+        bytes: data(alloc)?,
+        acl: list(alloc)?,
+        meta: meta(7, 1, 0),
+    };
+    let mut changes = Changes::new(alloc);
+    changes.push(Change::Node(Text::from_str(alloc, "/a")?, Some(node)))?;
+    changes.push(Change::Node(Text::from_str(alloc, "/b")?, None))?;
+    changes.push(Change::Session(7, Some(session(alloc))))?;
+    changes.push(Change::Session(9, None))?;
+    changes.push(Change::NextSession(8))?;
+    Ok(changes)
+}
+
+#[test]
+fn changes_are_copied(rt: HostRuntime) -> Result<(), Fail> {
+    let alloc = rt.alloc();
+    let changes = changes(alloc)?;
+    let copy = changes.copy(alloc)?;
+    assert_eq!(rt;
+        format!(in alloc; "{copy:?}")?,
+        format!(in alloc; "{changes:?}")?
+    );
     Ok(())
 }

@@ -7,6 +7,8 @@ mod creation;
 mod look;
 mod plan;
 mod session;
+#[cfg(test)]
+mod tests;
 
 pub use acting::{MOST_KIDS, act, act_on, parent_of, rise};
 pub use look::{Look, OfView};

@@ -1,4 +1,7 @@
-use kp_model::{Acls, Bytes, Events, Items, Meta, Reply, Session, Text};
+ghost use Rattle.std.specs.Prelude.{◌≡◌, IfOk};
+
+use kp_model::{Acls, Bytes, Duplicate, Events, Items, Meta, NoMemory, Reply, Session, Text};
+use std::alloc::Global;
 
 /// What an entry is answered.
 #[derive(Debug, Drop)]
@@ -74,4 +77,101 @@ pub struct Found {
 pub struct Stamp {
     pub index: u64,
     pub time: u64,
+}
+
+impl Prepared {
+    /// An equal value with memory of its own.
+    pub fn copy(&self, alloc: Global) -> Result<Prepared, NoMemory>
+        ensures { IfOk result (λ made. made ≡ self.now) }
+    {
+        Ok(Prepared {
+            reply: self.reply.copy(alloc)?,
+            events: self.events.copy(alloc)?,
+        })
+    }
+}
+
+impl Effect {
+    /// An equal value with memory of its own.
+    pub fn copy(&self, alloc: Global) -> Result<Effect, NoMemory>
+        ensures { IfOk result (λ made. made ≡ self.now) }
+    {
+        match self {
+            Effect::Nothing => Ok(Effect::Nothing),
+            Effect::Make {
+                path,
+                bytes,
+                acl,
+                meta,
+                up,
+            } => Ok(Effect::Make {
+                path: path.copy(alloc)?,
+                bytes: bytes.copy(alloc)?,
+                acl: acl.copy(alloc)?,
+                meta: *meta,
+                up: *up,
+            }),
+            Effect::Remove { path, up, owner } => Ok(Effect::Remove {
+                path: path.copy(alloc)?,
+                up: *up,
+                owner: *owner,
+            }),
+            Effect::Set { path, bytes, meta } => Ok(Effect::Set {
+                path: path.copy(alloc)?,
+                bytes: bytes.copy(alloc)?,
+                meta: *meta,
+            }),
+            Effect::SetAcl { path, acl, meta } => Ok(Effect::SetAcl {
+                path: path.copy(alloc)?,
+                acl: acl.copy(alloc)?,
+                meta: *meta,
+            }),
+        }
+    }
+}
+
+impl Duplicate for Effect {
+    fn duplicate(&self, alloc: Global) -> Result<Effect, NoMemory> {
+        self.copy(alloc)
+    }
+}
+
+impl Act {
+    /// An equal value with memory of its own.
+    pub fn copy(&self, alloc: Global) -> Result<Act, NoMemory>
+        ensures { IfOk result (λ made. made ≡ self.now) }
+    {
+        Ok(Act {
+            prepared: self.prepared.copy(alloc)?,
+            effect: self.effect.copy(alloc)?,
+        })
+    }
+}
+
+impl Plan {
+    /// An equal value with memory of its own.
+    pub fn copy(&self, alloc: Global) -> Result<Plan, NoMemory>
+        ensures { IfOk result (λ made. made ≡ self.now) }
+    {
+        Ok(Plan {
+            prepared: self.prepared.copy(alloc)?,
+            session: copy_session(alloc, &self.session)?,
+            next: self.next,
+            effects: self.effects.copy(alloc)?,
+        })
+    }
+}
+
+// The copy of a session that is set or goes, where there is one.
+fn copy_session(
+    alloc: Global,
+    session: &Option<(u64, Option<Session>)>,
+) -> Result<Option<(u64, Option<Session>)>, NoMemory>
+    ensures { IfOk result (λ made. made ≡ session.now) }
+{
+    match session {
+        None => Ok(None),
+        Some((id, None)) => Ok(Some((*id, None))),
+        Some((id, Some(session))) => Ok(Some((*id, Some(session.copy(alloc)?)))),
+    }
 }

@@ -26,6 +26,18 @@ pub struct Decided {
     pub changes: Changes,
 }
 
+impl Decided {
+    /// An equal value with memory of its own.
+    pub fn copy(&self, alloc: Global) -> Result<Decided, NoMemory>
+        ensures { IfOk result (λ made. made ≡ self.now) }
+    {
+        Ok(Decided {
+            prepared: self.prepared.copy(alloc)?,
+            changes: self.changes.copy(alloc)?,
+        })
+    }
+}
+
 /// What an entry of this index is answered, and its changes: set in their order, they make of the nodes, the
 /// sessions and the next session number those behind the entry. The data of each node that is set fits its length
 /// field. The view stays as it is.

@@ -90,9 +90,15 @@ fn decided(alloc: Global, cells: &Cells, entry: &Entry) -> Result<Decided, NoMem
 
 #[test]
 fn an_opening_is_prepared(rt: HostRuntime) -> Result<(), Fail> {
-    let prepared = prepared(rt.alloc(), &open())?;
+    let alloc = rt.alloc();
+    let prepared = prepared(alloc, &open())?;
     assert!(rt; matches!(prepared.reply, Reply::Session(1)));
     assert_eq!(rt; prepared.events.len(), 0);
+    let copy = prepared.copy(alloc)?;
+    assert_eq!(rt;
+        format!(in alloc; "{copy:?}")?,
+        format!(in alloc; "{prepared:?}")?
+    );
     Ok(())
 }
 
@@ -118,5 +124,10 @@ fn an_opening_is_decided(rt: HostRuntime) -> Result<(), Fail> {
         matches!(&changes[0], Change::Session(1, Some(session)) if session.timeout == 30000 && session.seq == 0)
     );
     assert!(rt; matches!(&changes[1], Change::NextSession(2)));
+    let copy = decided.copy(alloc)?;
+    assert_eq!(rt;
+        format!(in alloc; "{copy:?}")?,
+        format!(in alloc; "{decided:?}")?
+    );
     Ok(())
 }

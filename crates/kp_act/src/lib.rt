@@ -8,7 +8,7 @@ mod look;
 mod plan;
 mod session;
 #[cfg(test)]
-mod tests;
+mod copy_tests;
 
 pub use acting::{MOST_KIDS, act, act_on, parent_of, rise};
 pub use look::{Look, OfView};

@@ -14,4 +14,5 @@ pub mod Released
 pub mod Traces
 pub mod Sets
 pub mod Kept
+pub mod Root
 pub mod OneChild

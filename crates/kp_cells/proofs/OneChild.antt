@@ -1,5 +1,5 @@
 -- The root and one child, which a session owns: the tree of the tests.
-use Rattle.std.proofs.Common.{◌≡◌, ℕ, Bool, true, false, not, cond, List, [], ◌∷◌, length, Some, None, refl, ap, sym, subst, ◌∙◌, arith}
+use Rattle.std.proofs.Common.{◌≡◌, ℕ, Bool, true, false, not, cond, List, [], ◌∷◌, length, Some, None, refl, ap, sym, subst, ◌∙◌}
 use Rattle.std.specs.Prelude.{◌==◌, map, unwrap_or, if◌then◌else◌}
 use Rattle.std.specs.List.{filter}
 use Rattle.std.specs.Option.{option_map, option_map_or}
@@ -19,6 +19,7 @@ use Rattle.kp_cells.specs.Parts.{Parts, parts_of, whole, FitTogether}
 use Rattle.kp_layers.specs.Layering.{latest_of}
 use Rattle.kp_cells.specs.Overlays.{Overlays, IsOpen, with_owner, root_parts, latest_parts, committed_parts, settled, all_begun, all_sealed, all_committed, with_meta, with_content, with_acl, with_child, with_owned, with_session, with_next}
 use Rattle.kp_cells.proofs.Maps.{tied, passing, picked, get-mapped, get-kept, chosen-insert, chosen-none}
+use Rattle.kp_cells.proofs.Root.{one_entry}
 use Rattle.kp_cells.proofs.Shown.{path_total, path_same}
 
 abbrev a : List ℕ
@@ -26,16 +27,6 @@ a = 47 ∷ 97 ∷ []
 
 abbrev two : {X : Type 0} → X → X → map.FinMap path_cmp X
 two u v = map.insert (map.insert map.empty root u) a v
-
-nothing : {A : Type 0} (xs : List A) → length xs ≡ 0 → xs ≡ []
-nothing [] h = refl
-nothing (x ∷ xs) h = absurd (omega (arith, h))
-
-no_entries : {X : Type 0} → map.entries (map.empty {X = X} {R = path_cmp}) ≡ []
-no_entries {X} = nothing _ (sym (map.len-entries map.empty) ∙ map.len-empty path_cmp X)
-
-one_entry : {X : Type 0} (u : X) → map.entries (map.insert (map.empty {R = path_cmp}) root u) ≡ (root, u) ∷ []
-one_entry u = map.entries-insert path_total map.empty root u ∙ ap (put path_cmp root u) no_entries
 
 entries : {X : Type 0} (u v : X) → map.entries (two u v) ≡ (root, u) ∷ (a, v) ∷ []
 entries u v = map.entries-insert path_total (map.insert map.empty root u) a v ∙ ap (put path_cmp a v) (one_entry u)

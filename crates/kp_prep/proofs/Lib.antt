@@ -3,4 +3,3 @@ pub mod Within
 pub mod Changes
 pub mod Ledgered
 pub mod Entries
-pub mod Root

@@ -1,6 +1,5 @@
 pub mod Replay
 pub mod Whole
-pub mod Root
 pub mod Parts
 pub mod LayerKeys
 pub mod Keeping

@@ -1,6 +1,6 @@
 use Rattle.std.proofs.Common.{ap, ◌∙◌}
 use Rattle.kp_cells.specs.Overlays.{all_begun}
-use Rattle.kp_prep.proofs.Root.{begun_fits, begun_sound, begun_next}
+use Rattle.kp_cells.proofs.Root.{begun_fits, begun_sound, begun_next}
 use Rattle.kp_prep.proofs.tests.begun.Goals as goal
 
 pub returns-clause-fits : goal.returns-clause-fits

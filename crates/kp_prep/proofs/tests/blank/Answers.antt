@@ -1,4 +1,4 @@
-use Rattle.kp_prep.proofs.Root.{settled_fits, settled_sound, settled_next, of_settled}
+use Rattle.kp_cells.proofs.Root.{settled_fits, settled_sound, settled_next, of_settled}
 use Rattle.kp_prep.proofs.tests.blank.Goals as goal
 
 pub returns-clause-fits : goal.returns-clause-fits

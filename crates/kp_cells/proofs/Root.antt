@@ -1,4 +1,4 @@
--- The cells of the empty tree.
+-- The parts of the empty state, and the cells of the empty tree.
 use Rattle.std.proofs.Common.{◌≡◌, ℕ, Bool, true, false, not, cond, List, [], ◌∷◌, length, Option, Some, None, refl, ap, sym, subst, ◌∙◌, arith}
 use Rattle.std.specs.Prelude.{◌==◌, map, unwrap_or, Result, Ok, Err, IfOk}
 use Rattle.std.specs.List.{filter}
@@ -19,7 +19,7 @@ use Rattle.kp_cells.specs.Mapped.{mapped, kept, chosen}
 use Rattle.kp_cells.specs.Parts.{parts_of, whole, FitTogether}
 use Rattle.kp_cells.specs.Overlays.{Overlays, root_parts, next_in, latest_parts, latest_state, settled, all_begun}
 use Rattle.kp_cells.proofs.Maps.{tied, passing, picked, get-mapped, get-kept, chosen-none}
-use Rattle.kp_act.proofs.Paths.{path_total, path_same}
+use Rattle.kp_cells.proofs.Shown.{path_total, path_same}
 
 -- the root alone
 abbrev alone : Nodes
@@ -32,7 +32,7 @@ nothing (x ∷ xs) h = absurd (omega (arith, h))
 no_entries : {X : Type 0} → map.entries (map.empty {X = X} {R = path_cmp}) ≡ []
 no_entries {X} = nothing _ (sym (map.len-entries map.empty) ∙ map.len-empty path_cmp X)
 
-one_entry : {X : Type 0} (v : X) → map.entries (map.insert (map.empty {R = path_cmp}) root v) ≡ (root, v) ∷ []
+pub one_entry : {X : Type 0} (v : X) → map.entries (map.insert (map.empty {R = path_cmp}) root v) ≡ (root, v) ∷ []
 one_entry v = map.entries-insert path_total map.empty root v ∙ ap (put path_cmp root v) no_entries
 
 one_of : {X : Type 0} (v : X) → map.from_sorted {R = path_cmp} ((root, v) ∷ []) ≡ map.insert map.empty root v
@@ -79,16 +79,16 @@ next_one : next_in (map.insert map.empty 0 1) ≡ 1
 next_one = ap (λ (o : Option ℕ). unwrap_or o 1) (map.get-insert nat_cmp_total map.empty 0 1 0)
 
 -- the parts of the root alone are those of the empty state
-parts_empty : latest_parts (settled 0 root_parts) ≡ parts_of empty
+pub parts_empty : (next : ℕ) → next ≡ next_in (map.insert map.empty 0 1) → record root_parts { next = next } ≡ parts_of empty
 unfolding parts_of empty
-parts_empty = sym (λ i. record {
+parts_empty next e = sym (λ i. record {
   metas = (mapped_one (stat alone) blank_node ∙ ap (map.insert map.empty root) shown_alone) i;
   contents = mapped_one (λ _ (n : Node). n.bytes) blank_node i;
   acls = mapped_one (λ _ (n : Node). n.acl) blank_node i;
   children = no_children i;
   owners = no_owners i;
   sessions = map.empty;
-  next = sym next_one i;
+  next = sym (e ∙ next_one) i;
 })
 
 -- these parts, put together
@@ -104,7 +104,7 @@ whole_empty = λ i. record {
 
 -- the cells of the empty tree stand for it
 pub settled_fits : (o : Overlays) → o ≡ settled 0 root_parts → FitTogether (latest_parts o)
-settled_fits o e = subst (λ z. FitTogether (latest_parts z)) (sym e) (parts_empty ∙ ap parts_of (sym whole_empty))
+settled_fits o e = subst (λ z. FitTogether (latest_parts z)) (sym e) (parts_empty _ refl ∙ ap parts_of (sym whole_empty))
 
 pub settled_sound : (o : Overlays) → o ≡ settled 0 root_parts → IsSound (latest_state o)
 settled_sound o e = subst (λ z. IsSound (latest_state z)) (sym e) (subst IsSound (sym whole_empty) empty_sound)

@@ -19,4 +19,6 @@ pub use print::{
 };
 
 #[cfg(test)]
+mod print_tests;
+#[cfg(test)]
 mod tests;

@@ -81,8 +81,7 @@ fn making(alloc: Global) -> Result<Effect, NoMemory> {
 }
 
 // An effect of each kind.
-fn effects(alloc: Global) -> Result<Effects, NoMemory> {
-    let mut effects = Effects::new(alloc);
+fn add_effects(alloc: Global, effects: &mut Effects) -> Result<(), NoMemory> {
     effects.push(Effect::Nothing)?;
     effects.push(making(alloc)?)?;
     effects.push(Effect::Remove {
@@ -99,38 +98,54 @@ fn effects(alloc: Global) -> Result<Effects, NoMemory> {
         path: Text::from_str(alloc, "/a")?,
         acl: list(alloc)?,
         meta: meta(7, 0),
-    })?;
-    Ok(effects)
+    })
 }
 
-#[test]
-fn an_act_is_copied(rt: HostRuntime) -> Result<(), Fail> {
-    let alloc = rt.alloc();
+// A plan with these effects.
+fn plan(alloc: Global) -> Result<Plan, NoMemory> {
+    let mut effects = Effects::new(alloc);
+    add_effects(alloc, &mut effects)?;
+    Ok(Plan {
+        prepared: prepared(alloc)?,
+        session: Some((7, Some(session(alloc)))),
+        next: Some(8),
+        effects,
+    })
+}
+
+// Whether a copy of an act prints as it does.
+fn is_act_copied(alloc: Global, act: &Act) -> Result<bool, NoMemory> {
+    let copy = act.copy(alloc)?;
+    let one = format!(in alloc; "{copy:?}")?;
+    let other = format!(in alloc; "{act:?}")?;
+    Ok(one.as_str() == other.as_str())
+}
+
+// Whether a copy of a plan prints as it does.
+fn is_plan_copied(alloc: Global, plan: &Plan) -> Result<bool, NoMemory> {
+    let copy = plan.copy(alloc)?;
+    let one = format!(in alloc; "{copy:?}")?;
+    let other = format!(in alloc; "{plan:?}")?;
+    Ok(one.as_str() == other.as_str())
+}
+
+fn run_act(alloc: Global) -> Result<bool, NoMemory> {
     let act = Act {
         prepared: prepared(alloc)?,
         effect: making(alloc)?,
     };
-    let copy = act.copy(alloc)?;
-    assert_eq!(rt;
-        format!(in alloc; "{copy:?}")?,
-        format!(in alloc; "{act:?}")?
-    );
-    Ok(())
+    is_act_copied(alloc, &act)
+}
+
+fn run_plan(alloc: Global) -> Result<bool, NoMemory> {
+    let plan = plan(alloc)?;
+    is_plan_copied(alloc, &plan)
 }
 
 #[test]
-fn a_plan_is_copied(rt: HostRuntime) -> Result<(), Fail> {
-    let alloc = rt.alloc();
-    let plan = Plan {
-        prepared: prepared(alloc)?,
-        session: Some((7, Some(session(alloc)))),
-        next: Some(8),
-        effects: effects(alloc)?,
-    };
-    let copy = plan.copy(alloc)?;
-    assert_eq!(rt;
-        format!(in alloc; "{copy:?}")?,
-        format!(in alloc; "{plan:?}")?
-    );
+fn an_act_and_a_plan_are_copied(rt: HostRuntime) -> Result<(), Fail> {
+    let act = run_act(rt.alloc())?;
+    let plan = run_plan(rt.alloc())?;
+    assert!(rt; act && plan);
     Ok(())
 }

@@ -3,12 +3,12 @@
 
 mod acting;
 mod checks;
+#[cfg(test)]
+mod copy_tests;
 mod creation;
 mod look;
 mod plan;
 mod session;
-#[cfg(test)]
-mod copy_tests;
 
 pub use acting::{MOST_KIDS, act, act_on, parent_of, rise};
 pub use look::{Look, OfView};

@@ -90,15 +90,9 @@ fn decided(alloc: Global, cells: &Cells, entry: &Entry) -> Result<Decided, NoMem
 
 #[test]
 fn an_opening_is_prepared(rt: HostRuntime) -> Result<(), Fail> {
-    let alloc = rt.alloc();
-    let prepared = prepared(alloc, &open())?;
+    let prepared = prepared(rt.alloc(), &open())?;
     assert!(rt; matches!(prepared.reply, Reply::Session(1)));
     assert_eq!(rt; prepared.events.len(), 0);
-    let copy = prepared.copy(alloc)?;
-    assert_eq!(rt;
-        format!(in alloc; "{copy:?}")?,
-        format!(in alloc; "{prepared:?}")?
-    );
     Ok(())
 }
 
@@ -110,6 +104,14 @@ fn a_dead_session_is_neither_taken_over_nor_ended(rt: HostRuntime) -> Result<(),
     assert!(rt; matches!(expired.reply, Reply::Stale));
     assert_eq!(rt; expired.events.len(), 0);
     Ok(())
+}
+
+// Whether a copy of what was decided prints as it does.
+fn is_copied(alloc: Global, decided: &Decided) -> Result<bool, NoMemory> {
+    let copy = decided.copy(alloc)?;
+    let one = format!(in alloc; "{copy:?}")?;
+    let other = format!(in alloc; "{decided:?}")?;
+    Ok(one.as_str() == other.as_str())
 }
 
 #[test]
@@ -124,10 +126,7 @@ fn an_opening_is_decided(rt: HostRuntime) -> Result<(), Fail> {
         matches!(&changes[0], Change::Session(1, Some(session)) if session.timeout == 30000 && session.seq == 0)
     );
     assert!(rt; matches!(&changes[1], Change::NextSession(2)));
-    let copy = decided.copy(alloc)?;
-    assert_eq!(rt;
-        format!(in alloc; "{copy:?}")?,
-        format!(in alloc; "{decided:?}")?
-    );
+    let copied = is_copied(alloc, &decided)?;
+    assert!(rt; copied);
     Ok(())
 }

@@ -16,3 +16,4 @@ pub mod Sets
 pub mod Kept
 pub mod Root
 pub mod OneChild
+pub mod Counts

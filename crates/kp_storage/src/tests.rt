@@ -496,7 +496,9 @@ fn nodes(alloc: Global, storage: &mut Storage) -> Result<bool, NoMemory> {
 
 fn run_nodes(alloc: Global) -> Result<bool, NoMemory> {
     let mut storage = Storage::new(alloc)?;
-    nodes(alloc, &mut storage)
+    let told = nodes(alloc, &mut storage);
+    drop(storage);
+    told
 }
 
 #[test]
@@ -627,7 +629,9 @@ fn ends(alloc: Global, storage: &mut Storage) -> Result<bool, NoMemory> {
 
 fn run_ends(alloc: Global) -> Result<bool, NoMemory> {
     let mut storage = Storage::new(alloc)?;
-    ends(alloc, &mut storage)
+    let told = ends(alloc, &mut storage);
+    drop(storage);
+    told
 }
 
 #[test]
@@ -690,7 +694,9 @@ fn attempts(alloc: Global, storage: &mut Storage) -> Result<bool, NoMemory> {
 
 fn run_attempts(alloc: Global) -> Result<bool, NoMemory> {
     let mut storage = Storage::new(alloc)?;
-    attempts(alloc, &mut storage)
+    let told = attempts(alloc, &mut storage);
+    drop(storage);
+    told
 }
 
 #[test]
@@ -846,7 +852,9 @@ fn ids(alloc: Global, storage: &mut Storage) -> Result<bool, NoMemory> {
 
 fn run_ids(alloc: Global) -> Result<bool, NoMemory> {
     let mut storage = Storage::new(alloc)?;
-    ids(alloc, &mut storage)
+    let told = ids(alloc, &mut storage);
+    drop(storage);
+    told
 }
 
 #[test]

@@ -369,21 +369,35 @@ fn agreeing(alloc: Global, dice: &mut Dice, both: &mut Both, steps: u64) -> Resu
 /// The two stores, empty.
 fn blank(alloc: Global) -> Result<Both, NoMemory> {
     let plain = PlainStore::new(alloc)?;
-    let layered = Storage::new(alloc)?;
-    Ok(Both { layered, plain })
+    match Storage::new(alloc) {
+        Ok(layered) => Ok(Both { layered, plain }),
+        Err(none) => {
+            drop(plain);
+            Err(none)
+        }
+    }
 }
 
-/// Those of a run on empty stores; none where the sessions behind it differ.
-fn agreeing_of(alloc: Global, steps: u64) -> Result<u64, NoMemory>
+/// Those of a run on these stores; none where the sessions behind it differ.
+fn agreeing_on(alloc: Global, both: &mut Both, steps: u64) -> Result<u64, NoMemory>
     requires { steps ≤ 100000 }
 {
     let mut dice = Dice { state: 2026 };
-    let mut both = blank(alloc)?;
-    let same = agreeing(alloc, &mut dice, &mut both, steps)?;
-    if !same_sessions(alloc, &both)? {
+    let same = agreeing(alloc, &mut dice, both, steps)?;
+    if !same_sessions(alloc, both)? {
         return Ok(0);
     }
     Ok(same)
+}
+
+/// Those of a run on empty stores.
+fn agreeing_of(alloc: Global, steps: u64) -> Result<u64, NoMemory>
+    requires { steps ≤ 100000 }
+{
+    let mut both = blank(alloc)?;
+    let same = agreeing_on(alloc, &mut both, steps);
+    drop(both);
+    same
 }
 
 #[test]

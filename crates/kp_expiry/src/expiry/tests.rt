@@ -26,10 +26,7 @@ fn sessions_come_due(rt: HostRuntime) -> Result<(), Fail> {
     );
     assert_eq!(rt; expiry.len(), 3);
     expiry.touch_all(40_000);
-    assert_eq!(rt;
-        expiry.due(rt.alloc(), 69_999)?.as_slice(),
-        [7, 8].as_slice()
-    );
+    assert_eq!(rt; expiry.due(rt.alloc(), 69_999)?.as_slice(), [7].as_slice());
     assert_eq!(rt; expiry.heard(3).map(|known| known.deadline()), Some(70_000));
     Ok(())
 }

@@ -15,4 +15,3 @@ pub mod Traces
 pub mod Sets
 pub mod Kept
 pub mod Root
-pub mod OneChild

@@ -115,27 +115,41 @@ impl Cells {
     pub fn new(alloc: Global) -> Result<Cells, NoMemory>
         ensures { IfOk result (λ cells. cells ≡ settled 0 root_parts) }
     {
-        let mut cells = Cells::blank(alloc)?;
-        cells.begin()?;
-        cells.stage_root(alloc)?;
-        cells.seal();
-        let _ = cells.commit_front();
-        cells.applied = 0;
-        Ok(cells)
+        let mut cells = Cells::blank(alloc);
+        match cells.settle(alloc) {
+            Ok(()) => Ok(cells),
+            Err(none) => {
+                drop(cells);
+                Err(none)
+            }
+        }
+    }
+
+    // Makes the root, and takes it in.
+    fn settle(&mut self, alloc: Global) -> Result<(), NoMemory>
+        requires { self.old ≡ blank_overlays }
+        ensures { OnOk result (self.new ≡ settled 0 root_parts) }
+    {
+        self.begin()?;
+        self.stage_root(alloc)?;
+        self.seal();
+        let _ = self.commit_front();
+        self.applied = 0;
+        Ok(())
     }
 
     // No nodes and no sessions.
-    fn blank(alloc: Global) -> Result<Cells, NoMemory>
-        ensures { IfOk result (λ cells. cells ≡ blank_overlays) }
+    fn blank(alloc: Global) -> Cells
+        ensures { result ≡ blank_overlays }
     {
-        let metas = Layers::new(alloc)?;
-        let contents = Layers::new(alloc)?;
-        let acls = Layers::new(alloc)?;
-        let children = Layers::new(alloc)?;
-        let owners = GroupedLayers::new(alloc)?;
-        let sessions = GroupedLayers::new(alloc)?;
-        let next = Layers::new(alloc)?;
-        Ok(Cells {
+        let metas = Layers::new(alloc);
+        let contents = Layers::new(alloc);
+        let acls = Layers::new(alloc);
+        let children = Layers::new(alloc);
+        let owners = GroupedLayers::new(alloc);
+        let sessions = GroupedLayers::new(alloc);
+        let next = Layers::new(alloc);
+        Cells {
             alloc,
             names: Names::new(alloc),
             trail: Trail::new(alloc),
@@ -149,7 +163,7 @@ impl Cells {
             sessions,
             next,
             applied: 0,
-        })
+        }
     }
 
     // Stages the root and the first session number.

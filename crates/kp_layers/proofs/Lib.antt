@@ -6,3 +6,4 @@ pub mod Used
 pub mod Listed
 pub mod Counted
 pub mod InGroups
+mod Replaced

@@ -57,14 +57,14 @@ impl<V, S: Grouping<V>> Model for GroupedLayers<V, S> {
 
 impl<V, S: Grouping<V>> GroupedLayers<V, S> {
     /// An empty map with no layers. Its later growth takes memory from `alloc`.
-    pub fn new(alloc: Global) -> Result<Self, NoMemory>
-        ensures { IfOk result (λ layers. layers ≡ empty_layering) }
+    pub fn new(alloc: Global) -> Self
+        ensures { result ≡ empty_layering }
     {
-        Ok(GroupedLayers {
+        GroupedLayers {
             history: History::new(alloc),
             sealed: VecDeque::new(alloc),
             pending: None,
-        })
+        }
     }
 
     /// Opens a layer with no writes, and makes the room for its sealing. After an error nothing
@@ -235,6 +235,16 @@ impl<V: Drop, S: Grouping<V>> GroupedLayers<V, S> {
             }
             None => false,
         }
+    }
+}
+
+impl<V: Drop> GroupedLayers<V, Ungrouped> {
+    /// Gives a key that has a value in the base map another one. Takes no memory.
+    pub fn replace_base(&mut self, key: u64, value: V)
+        requires { IsSome (map.get self.old.base key) }
+        ensures { self.new ≡ record self.old { base = map.insert self.old.base key value } }
+    {
+        self.history.replace(key, value);
     }
 }
 

@@ -6,6 +6,8 @@ fn marks_run_on_over_pops_at_both_ends(rt: HostRuntime) -> Result<(), NoMemory> 
     region.reserve(3, 4)?;
     assert_eq!(rt; region.push(&[1, 2]), 1);
     assert_eq!(rt; region.push(&[3]), 2);
+    assert!(rt; region.len() == 2 && !region.is_empty());
+    assert!(rt; region.spare_records() == 1 && region.spare_bytes() == 1);
     assert!(rt; region.pop_back());
     assert_eq!(rt; region.push(&[4]), 2);
     assert_eq!(rt; region.get(2), Some(&[4][..]));

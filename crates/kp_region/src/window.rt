@@ -4,8 +4,8 @@ ghost use Rattle.std.specs.Prelude.{◌≡◌, ◌+◌, ◌-◌, ◌*◌, ◌^�
 ghost use Rattle.std.specs.Vec.{vec_len, vec_capacity};
 ghost use Rattle.kp_region.specs.Stretch.{end_of};
 
-use crate::memory::NoMemory;
-use std::alloc::Global;
+use crate::NoMemory;
+use std::alloc::{AllocError, Global};
 use std::marker::Model;
 
 /// The bytes of a stream from one place to another, and room for more. Every byte has a running place,
@@ -156,7 +156,7 @@ fn make_room(buffer: &mut Vec<u8>, extra: usize) -> Result<(), NoMemory>
 {
     let len = buffer.len();
     if usize::MAX / 4 < len || usize::MAX / 4 < extra {
-        return Err(NoMemory);
+        return Err(AllocError);
     }
     buffer.reserve_exact(len + 2 * extra)?;
     Ok(())

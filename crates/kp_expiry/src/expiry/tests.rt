@@ -4,7 +4,7 @@ use std::test::Fail;
 // A session that was heard at 1000 for 30000 ms has the deadline 31000.
 #[test]
 fn sessions_come_due(rt: HostRuntime) -> Result<(), Fail> {
-    let mut expiry = Expiry::new(rt.alloc())?;
+    let mut expiry = Expiry::new(rt.alloc());
     expiry.touch(9, 30_000, 1_000)?;
     expiry.touch(7, 4_200, 1_700)?;
     expiry.touch(8, 29_501, 1_000)?;
@@ -25,6 +25,11 @@ fn sessions_come_due(rt: HostRuntime) -> Result<(), Fail> {
         [8, 3, 7].as_slice()
     );
     assert_eq!(rt; expiry.len(), 3);
-    assert_eq!(rt; expiry.heard(3).map(|known| known.deadline()), Some(31_500));
+    expiry.touch_all(40_000);
+    assert_eq!(rt;
+        expiry.due(rt.alloc(), 69_999)?.as_slice(),
+        [7, 8].as_slice()
+    );
+    assert_eq!(rt; expiry.heard(3).map(|known| known.deadline()), Some(70_000));
     Ok(())
 }

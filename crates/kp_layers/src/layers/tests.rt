@@ -63,16 +63,26 @@ fn comes_and_goes(alloc: Global, layers: &mut Layers<u64>) -> Result<bool, NoMem
     Ok(committed && listed && used && dropped && unused && none)
 }
 
+// Whether another value stands in the base for a key that is there.
+fn is_replaced(layers: &mut Layers<u64>) -> bool {
+    let there = layers.committed(7).is_some();
+    if there {
+        layers.replace_base(7, 71);
+    }
+    there && shows(layers, Some(71), None, Some(90))
+}
+
 fn two_layers(alloc: Global, layers: &mut Layers<u64>) -> Result<bool, NoMemory>
     requires { layers.old.staged ≡ None }
 {
     fill(layers)?;
     let told = tells_of_both(alloc, layers)?;
-    Ok(comes_and_goes(alloc, layers)? && told)
+    let went = comes_and_goes(alloc, layers)?;
+    Ok(told && went && is_replaced(layers))
 }
 
 fn run_two_layers(alloc: Global) -> Result<bool, NoMemory> {
-    let mut layers = Layers::new(alloc)?;
+    let mut layers = Layers::new(alloc);
     two_layers(alloc, &mut layers)
 }
 
@@ -150,7 +160,7 @@ fn groups(alloc: Global, layers: &mut GroupedLayers<u64, ByDigit>) -> Result<boo
 }
 
 fn run_groups(alloc: Global) -> Result<bool, NoMemory> {
-    let mut layers = GroupedLayers::new(alloc)?;
+    let mut layers = GroupedLayers::new(alloc);
     groups(alloc, &mut layers)
 }
 

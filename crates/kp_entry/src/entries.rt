@@ -5,10 +5,10 @@ ghost use Rattle.kp_entry.specs.Entries.{entries};
 ghost use Rattle.kp_entry.specs.Spellings.{entry_of, IsEntryBytes};
 
 use crate::entry::decode;
-use crate::limits::MOST;
 use crate::pieces::Pieces;
 use crate::put_body::put_entry;
 use kp_jute::Reader;
+use kp_model::limits::LONGEST_FIELD;
 use kp_model::{Duplicate, Entry, NoMemory};
 use std::alloc::Global;
 use std::marker::Model;
@@ -129,7 +129,7 @@ impl Entries {
         ensures ok { OnOk result (self.new ≡ self.old ++ entry_of bytes.now ∷ []) }
         ensures err { OnErr result (self.new ≡ self.old) }
     {
-        if self.pieces.len() >= MOST {
+        if self.pieces.len() >= LONGEST_FIELD {
             return Err(NoMemory);
         }
         self.pieces.push(&[], bytes)

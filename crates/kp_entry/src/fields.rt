@@ -7,10 +7,11 @@ ghost use Rattle.kp_jute.specs.Jute.{unsigned_of, valid_text};
 ghost use Rattle.kp_model.specs.Grammar.{is_number, is_timeout, is_origin};
 ghost use Rattle.kp_entry.specs.Fields.{u8s, u32s, numbers, timeouts, blobs, strings, passwords, origins};
 
-use crate::limits::{GREATEST_TIMEOUT, LAST_NUMBER, LEAST_TIMEOUT};
+use crate::limits::{GREATEST_TIMEOUT, LEAST_TIMEOUT};
 use crate::list::Item;
 use crate::put_fields::{put_text, put_word};
 use kp_jute::{JuteFail, Reader};
+use kp_model::limits::LAST_NUMBER;
 use kp_model::{Acl, Bytes, NoMemory, Origin, Text};
 use std::alloc::Global;
 

@@ -5,9 +5,9 @@ ghost use Rattle.kp_jute.specs.Form.{Form, Gives, Wrote, WroteAll};
 ghost use Rattle.kp_jute.specs.Jute.{items_at};
 ghost use Rattle.kp_entry.specs.Fields.{lists};
 
-use crate::limits::MOST;
 use crate::put_fields::put_word;
 use kp_jute::{JuteFail, Reader};
+use kp_model::limits::LONGEST_FIELD;
 use kp_model::{Items, NoMemory};
 use std::alloc::Global;
 
@@ -57,7 +57,7 @@ fn items<T: Item + Drop>(
 pub fn put_list<T: Item>(out: &mut Vec<u8>, list: &Items<T>) -> Result<(), NoMemory>
     ensures { OnOk result (Wrote (lists T.form) list.now out.old.items out.new.items) }
 {
-    if list.len() > MOST {
+    if list.len() > LONGEST_FIELD {
         return Err(NoMemory);
     }
     put_word(out, list.len() as u32)?;

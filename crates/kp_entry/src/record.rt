@@ -9,10 +9,11 @@ ghost use Rattle.kp_entry.specs.Records.{votes, ballots, record_kinds, record_nu
 use crate::body::read_entry;
 use crate::fields::{read_byte, read_number};
 use crate::kinds::RecordKind;
-use crate::limits::{LAST_NUMBER, LAST_VOTE};
+use crate::limits::LAST_VOTE;
 use crate::put_body::put_entry;
 use crate::put_fields::{put_byte, put_number};
 use kp_jute::{JuteFail, Reader};
+use kp_model::limits::LAST_NUMBER;
 use kp_model::{Duplicate, Entry, NoMemory};
 use std::alloc::Global;
 

@@ -8,12 +8,12 @@ ghost use Rattle.kp_entry.specs.Heads.{appended, part_of};
 ghost use Rattle.kp_entry.specs.Spellings.{record_of, listed, Spells, IsRecordBytes, IsBaseOf, FitsBase, AreRecords};
 
 use crate::entries::Entries;
-use crate::limits::{LAST_NUMBER, MOST};
 use crate::pieces::Pieces;
 use crate::put_body::put_entry;
 use crate::put_fields::put_byte;
 use crate::record::{APPEND, Record, put_record, read_record};
 use kp_jute::Reader;
+use kp_model::limits::{LAST_NUMBER, LONGEST_FIELD};
 use kp_model::{Entry, NoMemory};
 use std::alloc::Global;
 use std::marker::Model;
@@ -222,7 +222,7 @@ impl Records {
         ensures ok { OnOk result (self.new ≡ self.old ++ record_of (head.now ++ tail.now) ∷ []) }
         ensures err { OnErr result (self.new ≡ self.old) }
     {
-        if head.len() + tail.len() > MOST - self.pieces.bytes().len() {
+        if head.len() + tail.len() > LONGEST_FIELD - self.pieces.bytes().len() {
             return Err(NoMemory);
         }
         self.pieces.push(head, tail)

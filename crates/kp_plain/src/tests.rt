@@ -1,9 +1,10 @@
 ghost use Rattle.std.specs.Prelude.{◌≤◌, length, IsTrue, IfOk};
+ghost use Rattle.kp_model.specs.Good.{IsSound};
 ghost use Rattle.kp_model.specs.Grammar.{fits_cmd};
 
 use crate::PlainStore;
 use kp_model::errors::NOT_EMPTY;
-use kp_model::{Acl, Body, Bytes, Cmd, Entry, Items, NoMemory, Origin, Reply, Seen, Text};
+use kp_model::{Acls, Body, Bytes, Cmd, Entry, NoMemory, Origin, Reply, Seen, Text};
 use std::alloc::Global;
 use std::test::Fail;
 
@@ -42,7 +43,10 @@ fn write(seq: u64, cmd: Cmd) -> Entry
 }
 
 // Adds an entry to a store that has room for it.
-fn add(store: &mut PlainStore, entry: &Entry) -> Result<(), NoMemory> {
+fn add(store: &mut PlainStore, entry: &Entry) -> Result<(), NoMemory>
+    requires sound { IsSound store.old.state }
+    ensures sound { IsSound store.new.state }
+{
     if store.last() < 1 << 62 {
         store.preprocess(entry)?;
     }
@@ -50,7 +54,9 @@ fn add(store: &mut PlainStore, entry: &Entry) -> Result<(), NoMemory> {
 }
 
 // A store with the opening.
-fn opened(alloc: Global) -> Result<PlainStore, NoMemory> {
+fn opened(alloc: Global) -> Result<PlainStore, NoMemory>
+    ensures { IfOk result (λ store. IsSound store.state) }
+{
     let mut store = PlainStore::new(alloc)?;
     add(&mut store, &open())?;
     Ok(store)
@@ -67,17 +73,13 @@ fn create(
     requires number { seq ≤ 100 }
     requires path { length path.now ≤ 100 }
     requires bytes { length bytes.now ≤ 100 }
+    requires sound { IsSound store.old.state }
+    ensures sound { IsSound store.new.state }
 {
-    let mut acl = Items::new(alloc);
-    acl.push(Acl {
-        perms: 31,
-        scheme: Text::from_str(alloc, "world")?,
-        id: Text::from_str(alloc, "anyone")?,
-    })?;
     let cmd = Cmd::Create {
         path: Text::from_str(alloc, path)?,
         bytes: Bytes::from_vec(Vec::from_slice(alloc, bytes)?),
-        acl,
+        acl: Acls::everyone(alloc)?,
         flags: 0,
         stat: false,
     };
@@ -95,6 +97,8 @@ fn set(
     requires number { seq ≤ 100 }
     requires path { length path.now ≤ 100 }
     requires bytes { length bytes.now ≤ 100 }
+    requires sound { IsSound store.old.state }
+    ensures sound { IsSound store.new.state }
 {
     let cmd = Cmd::SetData {
         path: Text::from_str(alloc, path)?,
@@ -108,6 +112,8 @@ fn set(
 fn delete(alloc: Global, store: &mut PlainStore, seq: u64, path: &str) -> Result<(), NoMemory>
     requires number { seq ≤ 100 }
     requires path { length path.now ≤ 100 }
+    requires sound { IsSound store.old.state }
+    ensures sound { IsSound store.new.state }
 {
     let cmd = Cmd::Delete {
         path: Text::from_str(alloc, path)?,
@@ -117,7 +123,10 @@ fn delete(alloc: Global, store: &mut PlainStore, seq: u64, path: &str) -> Result
 }
 
 // Forgets the entries behind an index of the store.
-fn cut(store: &mut PlainStore, last: u64) {
+fn cut(store: &mut PlainStore, last: u64)
+    requires sound { IsSound store.old.state }
+    ensures sound { IsSound store.new.state }
+{
     if store.applied() <= last && last <= store.last() {
         store.truncate(last);
     }

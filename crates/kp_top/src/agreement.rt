@@ -1,6 +1,7 @@
 //! The storage over layers answers as the store that replays its entries: the same entries, commits and truncations,
 //! drawn by a small generator, go through both, and every text that either prints is compared.
 ghost use Rattle.std.specs.Prelude.{◌<◌, ◌≤◌, IfOk, IfSome, IsTrue};
+ghost use Rattle.kp_model.specs.Good.{IsSound};
 ghost use Rattle.kp_model.specs.Grammar.{is_body};
 ghost use Rattle.kp_text.specs.Spelling.{is_line};
 
@@ -8,8 +9,8 @@ mod drawn;
 
 use crate::agreement::drawn::{Dice, PLACES, Place, below, line, path, session};
 use crate::line_commands::cmd_of;
+use crate::looking::{children, peek, see};
 use crate::print::{done_text, kids_text, no_kids_text, pre_text, seen_text, who_text};
-use crate::work::{children, peek, see};
 use kp_model::{Body, Committed, Entry, NoMemory, Origin, Paths, Seen, Text, View};
 use kp_plain::PlainStore;
 use kp_storage::Storage;
@@ -20,11 +21,12 @@ use std::test::Fail;
 /// Above each index and time of these runs.
 const MANY: u64 = 100000;
 
-/// The two stores.
+/// The two stores. The committed state of the plain one is sound, which its calls ask for.
 #[derive(Drop)]
 struct Both {
     layered: Storage,
     plain: PlainStore,
+    ghost sound: { IsSound plain.state },
 }
 
 /// The origin of a session that the n-th step opens or takes over: one of a few, which may hold a session already.
@@ -100,7 +102,9 @@ fn enter(both: &mut Both, n: u64, body: Body) -> Result<(), NoMemory>
 }
 
 /// What the plain store kept for its last entry.
-fn plain_kept(alloc: Global, plain: &PlainStore) -> Result<Vec<u8>, NoMemory> {
+fn plain_kept(alloc: Global, plain: &PlainStore) -> Result<Vec<u8>, NoMemory>
+    requires { IsSound plain.now.state }
+{
     let last = plain.last();
     let reply = plain.kept(last)?;
     pre_text(alloc, last, reply.as_ref())
@@ -191,7 +195,9 @@ fn same_see(alloc: Global, both: &Both, at: &Text) -> Result<bool, NoMemory> {
 }
 
 /// Whether the plain store has this node, in its committed or its uncommitted state.
-fn has(plain: &PlainStore, path: &str, committed: bool) -> Result<bool, NoMemory> {
+fn has(plain: &PlainStore, path: &str, committed: bool) -> Result<bool, NoMemory>
+    requires { IsSound plain.now.state }
+{
     if committed {
         Ok(plain.see(path)?.is_some())
     } else {
@@ -200,7 +206,9 @@ fn has(plain: &PlainStore, path: &str, committed: bool) -> Result<bool, NoMemory
 }
 
 /// The number of children that the plain store tells of a node; None where it has none.
-fn plain_count(plain: &PlainStore, path: &str, committed: bool) -> Result<Option<u32>, NoMemory> {
+fn plain_count(plain: &PlainStore, path: &str, committed: bool) -> Result<Option<u32>, NoMemory>
+    requires { IsSound plain.now.state }
+{
     let seen = if committed {
         plain.see(path)?
     } else {
@@ -219,7 +227,9 @@ fn names_there(
     at: &str,
     names: &Paths,
     committed: bool,
-) -> Result<Paths, NoMemory> {
+) -> Result<Paths, NoMemory>
+    requires { IsSound plain.now.state }
+{
     let mut there = Paths::new(alloc);
     for name in names.as_slice() {
         let child = below(alloc, at, name.as_str())?;
@@ -252,7 +262,9 @@ fn is_told(
     place: &Place,
     names: &Paths,
     committed: bool,
-) -> Result<bool, NoMemory> {
+) -> Result<bool, NoMemory>
+    requires { IsSound plain.now.state }
+{
     Ok(is_among(names.as_slice(), place.name) == has(plain, place.path, committed)?)
 }
 
@@ -262,7 +274,9 @@ fn are_places_told(
     at: &str,
     names: &Paths,
     committed: bool,
-) -> Result<bool, NoMemory> {
+) -> Result<bool, NoMemory>
+    requires { IsSound plain.now.state }
+{
     let mut told = true;
     for place in &PLACES {
         if place.parent == at && !is_told(plain, place, names, committed)? {
@@ -280,7 +294,9 @@ fn plain_kids(
     at: &str,
     names: &Paths,
     committed: bool,
-) -> Result<Vec<u8>, NoMemory> {
+) -> Result<Vec<u8>, NoMemory>
+    requires { IsSound plain.now.state }
+{
     if !has(plain, at, committed)? {
         return no_kids_text(alloc, word);
     }
@@ -290,7 +306,9 @@ fn plain_kids(
 
 /// Whether these are the names of all children that the plain store has: ascending, as many as it tells, and with
 /// those of the places.
-fn are_all(plain: &PlainStore, at: &str, names: &Paths, committed: bool) -> Result<bool, NoMemory> {
+fn are_all(plain: &PlainStore, at: &str, names: &Paths, committed: bool) -> Result<bool, NoMemory>
+    requires { IsSound plain.now.state }
+{
     let count = plain_count(plain, at, committed)?;
     let counted = count.unwrap_or(0) as usize == names.len();
     Ok(counted && are_ascending(names.as_slice()) && are_places_told(plain, at, names, committed)?)

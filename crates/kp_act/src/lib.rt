@@ -3,8 +3,6 @@
 
 mod acting;
 mod checks;
-#[cfg(test)]
-mod copy_tests;
 mod creation;
 mod look;
 mod plan;

@@ -254,6 +254,3 @@ impl<V: Drop> GroupedLayers<V, Ungrouped> {
         self.history.replace(key, value);
     }
 }
-
-#[cfg(test)]
-mod tests;

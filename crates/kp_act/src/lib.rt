@@ -8,7 +8,7 @@ mod look;
 mod plan;
 mod session;
 
-pub use acting::{MOST_KIDS, act, act_on, parent_of, rise};
+pub use acting::{act, act_on, parent_of, rise};
 pub use look::{Look, OfView};
 pub use plan::{Act, Effect, Effects, Found, Plan, Prepared, Stamp};
 pub use session::{answer, attach, open, show};

@@ -15,3 +15,4 @@ pub mod Traces
 pub mod Sets
 pub mod Kept
 pub mod Root
+pub mod Counts

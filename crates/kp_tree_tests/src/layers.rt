@@ -57,7 +57,7 @@ fn comes_and_goes(alloc: Global, layers: &mut Layers<u64>) -> Result<bool, NoMem
     requires { layers.old.staged ≡ None }
 {
     let committed = layers.commit_front() && layers.committed(7).copied() == Some(70);
-    let listed = has_committed(alloc, layers, &[7, 9])?;
+    let listed = has_committed(alloc, layers, &[7, 9])? && layers.committed_len() == 2;
     let used = layers.is_used(8) && shows(layers, None, Some(80), Some(90));
     let dropped = layers.drop_back() && shows(layers, Some(70), None, Some(90));
     let unused = !layers.is_used(8);

@@ -1,11 +1,11 @@
 -- The runs of changed rules: what comes out is computed.
-use Rattle.std.proofs.Common.{◌≡◌, ℕ, refl, sym, ap, ◌∙◌, List, [], ◌∷◌, Bool, cond, Option, None, Some}
+use Rattle.std.proofs.Common.{◌≡◌, ℕ, refl, ap, ◌∙◌, [], ◌∷◌, Option, None, Some}
 use Rattle.std.specs.Prelude.{slice_get}
 use Rattle.kp_jute.specs.Jute.{unsigned}
 use Rattle.kp_raft.specs.Parts.{Running}
 use Rattle.kp_raft.specs.Steps.{on_delivery}
 use Rattle.kp_world.specs.Net.{Net, Sent, Step, At, Comes, Event, Does, Tears, Starts, Commits, happens, heard, heard_by, steps, run}
-use Rattle.kp_world.specs.ChangedRuns.{ChangeAlone, delivered_by, came_by, steps_by, happens_by, run_by, LogsAreCompared, VotesAreSingle, VotesAreRecorded, TermsAreLookedAt}
+use Rattle.kp_world.specs.ChangedRuns.{ChangeAlone, delivered_by, came_by, steps_by, happens_by, LogsAreCompared, VotesAreSingle, VotesAreRecorded, TermsAreLookedAt}
 
 delivered_same : (n : ℕ) (w : Net ℕ) (m : Sent ℕ) (j : ℕ) (stop : Option ℕ) (v : Option Running) → delivered_by (on_delivery {I = ℕ}) n w m j stop v ≡ heard_by n w m j stop v
 delivered_same n w m j stop None = refl

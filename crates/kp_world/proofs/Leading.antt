@@ -7,7 +7,7 @@ use Rattle.kp_model.specs.LogEntry.{LogEntry}
 use Rattle.kp_model.specs.declared.read.Role.TheVariants.{Candidate}
 use Rattle.kp_entry.specs.declared.record.Record.TheVariants as record_
 use Rattle.kp_entry.specs.Log.{Log, last_index, term_of, with_entries}
-use Rattle.kp_raft.specs.Numbers.{MAX, each, is_peer, for_peers, greatest}
+use Rattle.kp_raft.specs.Numbers.{greatest}
 use Rattle.kp_model.specs.Majority.{count, is_majority, IsMajority}
 use Rattle.kp_entry.specs.Held.{Held}
 use Rattle.kp_raft.specs.Parts.{Running}

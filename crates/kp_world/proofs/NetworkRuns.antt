@@ -1,5 +1,5 @@
 -- The runs of networks of three members: what comes out is computed.
-use Rattle.std.proofs.Common.{◌≡◌, refl}
+use Rattle.std.proofs.Common.{refl}
 use Rattle.kp_jute.specs.Jute.{unsigned}
 use Rattle.kp_world.specs.NetworkRuns.{LeaderIsElected, EntriesAreApplied, EntriesAreDropped, StepIsTorn, ImageIsTaken}
 

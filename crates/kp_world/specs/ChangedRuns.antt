@@ -1,17 +1,17 @@
 -- What the rules are for: runs of networks of three members of which one rule is changed, where two members apply different entries.
-use Rattle.std.specs.Prelude.{◌≡◌, ℕ, cond, nat_lt, List, [], ◌∷◌, ◌++◌, map, length, take, Option, None, Some, slice_get}
+use Rattle.std.specs.Prelude.{◌≡◌, ℕ, cond, List, [], ◌∷◌, map, length, Option, None, Some, slice_get}
 use Rattle.kp_model.specs.LogEntry.{LogEntry}
 use Rattle.kp_model.specs.declared.entry.Body.TheVariants as body
 use Rattle.kp_entry.specs.declared.record.Record.{Record}
 use Rattle.kp_entry.specs.declared.record.Record.TheVariants as record_
-use Rattle.kp_entry.specs.Log.{Log, based_at}
-use Rattle.kp_entry.specs.Held.{Held, replay}
+use Rattle.kp_entry.specs.Log.{based_at}
+use Rattle.kp_entry.specs.Held.{Held}
 use Rattle.kp_raft.specs.declared.mail.Mail.{Mail}
 use Rattle.kp_raft.specs.declared.mail.Mail.TheVariants as mail
 use Rattle.kp_raft.specs.declared.event.RaftEvent.TheVariants as event
 use Rattle.kp_raft.specs.Parts.{Running, Outcome}
 use Rattle.kp_raft.specs.Steps.{on_delivery}
-use Rattle.kp_world.specs.Net.{Net, Node, Sent, Act, Step, At, Comes, Event, Does, Tears, Starts, Commits, acted, did, is_member, taken_of, front_behind, started_at, committed_at, full, run, blank}
+use Rattle.kp_world.specs.Net.{Net, Sent, Act, Step, At, Comes, Event, Does, Tears, Starts, Commits, acted, did, is_member, taken_of, front_behind, started_at, committed_at, full, run, blank}
 use Rattle.kp_world.specs.NetworkRuns.{written, opening}
 
 -- ---- a network whose members hear in another way

@@ -4,7 +4,7 @@ use Rattle.kp_model.specs.LogEntry.{LogEntry}
 use Rattle.kp_model.specs.declared.entry.Body.TheVariants as body
 use Rattle.kp_entry.specs.Held.{Held}
 use Rattle.kp_raft.specs.declared.event.RaftEvent.TheVariants as event
-use Rattle.kp_world.specs.Net.{Net, Node, At, Comes, Event, Does, Tears, Starts, Commits, run, blank}
+use Rattle.kp_world.specs.Net.{Net, At, Comes, Event, Does, Tears, Starts, Commits, run, blank}
 
 -- an entry of this term and time that changes nothing
 abbrev pub written : ℕ → ℕ → LogEntry

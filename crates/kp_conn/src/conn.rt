@@ -1,10 +1,10 @@
 //! A connection.
 
-ghost use Rattle.std.specs.Prelude.{◌≡◌, ◌≤◌, ◌<◌, ◌+◌, ◌^◌, [], ◌∷◌, ◌++◌, length, take, drop, nat_lt, slice_get, option_copied, option_map, is_some, IsSome, IfOk, OnOk, OnErr};
+ghost use Rattle.std.specs.Prelude.{◌≡◌, ◌≤◌, ◌<◌, ◌+◌, ◌^◌, [], ◌∷◌, ◌++◌, length, take, drop, nat_lt, slice_get, option_copied, option_map, is_some, IfOk, OnOk, OnErr};
 ghost use Rattle.kp_conn.specs.Connection.{blank, put, taken_back, closed, joined, answered, answered_kept, settled, serving, opened, live_as, drained, out_piece};
 ghost use Rattle.kp_conn.specs.Fed.{fed, fed_first, with_piece, nothing, IsLive, LiesIn};
 ghost use Rattle.kp_conn.specs.Packets.{event_packet};
-ghost use Rattle.kp_conn.specs.Queue.{SeqFits, awaited, reply_kept};
+ghost use Rattle.kp_conn.specs.Queue.{SeqFits, awaited};
 ghost use Rattle.kp_conn.specs.declared.phase.Phase.TheVariants as phases;
 ghost use Rattle.kp_conn.specs.declared.first.First.TheVariants as firsts;
 
@@ -143,9 +143,8 @@ impl Conn {
         self.answer_by(packet)
     }
 
-    /// Answers the request at the front by the reply that it keeps.
+    /// Answers the request at the front by the reply that it keeps. Changes nothing where it keeps none.
     pub fn answer_kept(&mut self, zxid: u64) -> Result<(), NoMemory>
-        requires { IsSome (reply_kept self.old.queue) }
         ensures ok { OnOk result (self.new ≡ answered_kept zxid self.old) }
         ensures err { OnErr result (self.new ≡ self.old) }
     {
@@ -157,7 +156,7 @@ impl Conn {
             },
         ) = self.queue.front()
         else {
-            return Err(NoMemory);
+            return Ok(());
         };
         let packet = write_reply_packet(self.alloc, request.xid, zxid, reply)?;
         self.answer_by(packet)

@@ -14,7 +14,7 @@ use crate::nodes::{Nodes, release};
 use crate::pair::{abandon_both, begin_four};
 use crate::trail::{Trail, begin_rest};
 use kp_layers::{GroupedLayers, Layers};
-use kp_model::{Acl, Acls, Bytes, Meta, NoMemory, Session, Text};
+use kp_model::{Acls, Bytes, Meta, NoMemory, Session};
 use std::alloc::Global;
 use std::marker::Model;
 
@@ -75,19 +75,6 @@ fn raised(applied: u64, more: bool) -> u64
     } else {
         applied
     }
-}
-
-// The access list that gives every right to everyone.
-fn everyones_acl(alloc: Global) -> Result<Acls, NoMemory>
-    ensures { IfOk result (λ acl. acl ≡ open_acl) }
-{
-    let mut acl = Acls::new(alloc);
-    acl.push(Acl {
-        perms: 31,
-        scheme: Text::from_str(alloc, "world")?,
-        id: Text::from_str(alloc, "anyone")?,
-    })?;
-    Ok(acl)
 }
 
 // What is shown of a node that no entry made.
@@ -174,7 +161,7 @@ impl Cells {
     {
         self.stage_meta("/", Some(blank_meta()))?;
         self.stage_content("/", Some(Bytes::new(alloc)))?;
-        let acl = everyones_acl(alloc)?;
+        let acl = Acls::everyone(alloc)?;
         self.stage_acl("/", Some(acl))?;
         self.stage_next(1)
     }

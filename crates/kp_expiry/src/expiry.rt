@@ -223,6 +223,3 @@ impl Expiry {
         sessions(&sorted, alloc)
     }
 }
-
-#[cfg(test)]
-mod tests;

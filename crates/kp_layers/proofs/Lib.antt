@@ -7,3 +7,4 @@ pub mod Listed
 pub mod Counted
 pub mod InGroups
 mod Replaced
+mod Filled

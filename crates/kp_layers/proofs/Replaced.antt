@@ -1,14 +1,14 @@
 -- A committed value that takes the place of another.
 use Rattle.std.proofs.Common.{◌≡◌, ℕ, ◌+◌, Bool, true, false, cond, List, Option, Some, None, IsSome, refl, sym, ap, ◌∙◌}
-use Rattle.std.specs.Prelude.{option_and_then, nat_eq}
+use Rattle.std.specs.Prelude.{nat_eq}
 use Rattle.std.specs.Map.{lookup}
 use Rattle.std.specs.BTreeMap.{BTreeMap}
 use Rattle.kp_layers.specs.declared.cells.Cell.{Cell}
 use Rattle.kp_layers.specs.declared.history.Write.{Write}
-use Rattle.kp_layers.specs.Chains.{committed_in, holds, HasChains, Commits}
+use Rattle.kp_layers.specs.Chains.{committed_in, HasChains, Commits}
 use Rattle.kp_layers.specs.Overlay.{Past}
 use Rattle.std.specs.FinMap as map
-use Rattle.kp_layers.specs.Grouped.{is_group, is_of, one, positive, times, HasIndex}
+use Rattle.kp_layers.specs.Grouped.{is_of, one, positive, times, HasIndex}
 
 pub cell_there : {V : Type 0} (o : Option (Cell V)) → IsSome (committed_in o) → IsSome o
 cell_there None h = h

@@ -1,5 +1,5 @@
 //! A map, and the writes over it in one log, the oldest first.
-ghost use Rattle.std.specs.Prelude.{Option, ◌≡◌, ℕ, ◌+◌, ◌-◌, ◌≤◌, ◌<◌, ◌++◌, ◌∷◌, [], length, OnOk, OnErr, IfOk, nat_eq, ◌^◌, Some, None, IsSome, take, drop};
+ghost use Rattle.std.specs.Prelude.{Option, true, ◌≡◌, ℕ, ◌+◌, ◌-◌, ◌≤◌, ◌<◌, ◌++◌, ◌∷◌, [], length, OnOk, OnErr, IfOk, nat_eq, ◌^◌, Some, None, IsSome, take, drop};
 ghost use Rattle.std.specs.FinMap as map;
 ghost use Rattle.std.specs.Option.{option_copied};
 ghost use Rattle.kp_layers.specs.Overlay.{put, overlay, newest_of, commit_first, empty_past};
@@ -7,6 +7,7 @@ ghost use Rattle.std.specs.List.{IsDistinct, filter, list_any};
 ghost use Rattle.std.specs.Ordering.{nat_cmp};
 ghost use Rattle.kp_layers.specs.Listed.{Lists, at_level};
 ghost use Rattle.kp_layers.specs.Used.{is_known};
+ghost use Rattle.kp_layers.specs.Chains.{recounted};
 ghost use Rattle.std.specs.BTreeMap as tree;
 ghost use Rattle.kp_layers.specs.Grouped.{is_in};
 
@@ -48,6 +49,8 @@ pub(crate) struct History<V, S: Grouping<V>> {
     log: VecDeque<Write<V>>,
     first: u64,
     index: Index<S::Group>,
+    // how many keys have a value in the base map
+    filled: u64,
 }
 
 impl<V, S: Grouping<V>> Model for History<V, S> {
@@ -57,12 +60,26 @@ impl<V, S: Grouping<V>> Model for History<V, S> {
 
     ghost coded = { past_code V.code };
 
-    ghost use Rattle.kp_layers.specs.Chains.{base_of, shown};
+    ghost use Rattle.kp_layers.specs.Chains.{base_of, shown, IsCounted};
     ghost use Rattle.kp_layers.specs.Grouped.{IsSound};
 
     ghost view = { λ h. record { base = base_of h.cells.entries; writes = shown h.log.items } };
 
-    ghost invariant = { λ h. IsSound S.Group.eq S.group_of h.index.groups.entries h.cells.entries h.log.items h.first };
+    ghost invariant = { λ h. IsSound S.Group.eq S.group_of h.index.groups.entries h.cells.entries h.log.items h.first × IsCounted h.cells.entries h.first h.filled };
+}
+
+// How many keys have a value, once one of them has one or has none, where before it had one or had
+// none.
+fn recounted(count: u64, before: bool, after: bool) -> u64
+    requires room { count < 2 ^ 64 - 1 }
+    requires there { before ≡ true → 1 ≤ count }
+    ensures { result ≡ recounted before after count }
+{
+    match (before, after) {
+        (false, true) => count + 1,
+        (true, false) => count - 1,
+        _ => count,
+    }
 }
 
 // The keys in their order.
@@ -83,6 +100,7 @@ impl<V, S: Grouping<V>> History<V, S> {
             log: VecDeque::new(alloc),
             first: 0,
             index: Index::new(alloc),
+            filled: 0,
         }
     }
 
@@ -91,6 +109,13 @@ impl<V, S: Grouping<V>> History<V, S> {
         ensures { result ≡ length self.now.writes }
     {
         self.log.len()
+    }
+
+    /// How many keys have a value in the base map.
+    pub(crate) fn filled(&self) -> u64
+        ensures { result ≡ map.len self.now.base }
+    {
+        self.filled
     }
 
     /// Whether the key has a value in the base map or a write.
@@ -290,7 +315,10 @@ impl<V: Drop, S: Grouping<V>> History<V, S> {
                 previous: _,
             } = write;
             self.first += 1;
+            let given = value.is_some();
             let replaced = commit_cell(&mut self.cells, key, value, self.first);
+            let had = replaced.is_some();
+            self.filled = recounted(self.filled, had, given);
             let group = group_of::<V, S>(&replaced);
             drop(replaced);
             self.index.take(group, key);

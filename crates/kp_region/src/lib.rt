@@ -2,8 +2,6 @@
 #![tactic(auto)]
 
 mod region;
-#[cfg(test)]
-mod tests;
 mod window;
 
 pub use region::Region;

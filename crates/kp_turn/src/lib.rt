@@ -7,8 +7,6 @@
 mod rule;
 mod stop;
 mod storied;
-#[cfg(test)]
-mod tests;
 mod turn;
 mod view;
 

@@ -1,4 +1,4 @@
-use Rattle.std.proofs.Common.{◌≡◌, ◌∙◌, ap, sym, Some, get_or, slice_set}
+use Rattle.std.proofs.Common.{◌∙◌, ap, sym, get_or, slice_set}
 use Rattle.std.proofs.lemmas.Option.{none-some}
 use Rattle.std.proofs.lemmas.List.{map-set}
 use Rattle.kp_expiry.specs.declared.tree.Slot.{Slot}

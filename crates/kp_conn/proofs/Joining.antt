@@ -6,18 +6,19 @@ use Rattle.std.proofs.lemmas.List.{take-append-le, drop-append-le}
 use Rattle.kp_jute.specs.declared.fault.JuteFail.{JuteFail}
 use Rattle.kp_jute.specs.Form.{whole}
 use Rattle.kp_jute.specs.Jute.{unsigned_of, packets}
+use Rattle.kp_model.specs.Limits.{longest_frame}
 use Rattle.kp_wire.specs.declared.request.Request.{Request}
 use Rattle.kp_wire.specs.Request.{requests}
 use Rattle.kp_conn.specs.declared.frames.Lead.{Lead}
 use Rattle.kp_conn.specs.declared.frames.Lead.TheVariants as leads
-use Rattle.kp_conn.specs.Frames.{Cut, length_of, longest, lead, cut, cut_up_to, cut_lead, cut_read, before, behind}
+use Rattle.kp_conn.specs.Frames.{Cut, length_of, lead, cut, cut_up_to, cut_lead, cut_read, before, behind}
 
 -- ---- what bytes begin with, by its three tests
 
 abbrev lead_by : Bool → Bool → Bool → ℕ → Lead
 lead_by b1 b2 b3 n = if b1 then leads.Part else (if b2 then leads.Wrong else (if b3 then leads.Part else leads.Frame n))
 
-lead_is : (bytes : List ℕ) → lead bytes ≡ lead_by (nat_lt (length bytes) 4) (nat_lt longest (length_of bytes)) (nat_lt (length bytes) (4 + length_of bytes)) (4 + length_of bytes)
+lead_is : (bytes : List ℕ) → lead bytes ≡ lead_by (nat_lt (length bytes) 4) (nat_lt longest_frame (length_of bytes)) (nat_lt (length bytes) (4 + length_of bytes)) (4 + length_of bytes)
 unfolding lead
 lead_is bytes = refl
 
@@ -33,21 +34,21 @@ frame_by false false false n k h = ((refl, refl), (refl, cc h))
 -- a frame of so many bytes stands at the front
 record IsFrame (bytes : List ℕ) (k : ℕ) : Type 0 where
   four : 4 ≤ length bytes
-  small : length_of bytes ≤ longest
+  small : length_of bytes ≤ longest_frame
   within : k ≤ length bytes
   size : 4 + length_of bytes ≡ k
 
 is_frame : (bytes : List ℕ) (k : ℕ) → lead bytes ≡ leads.Frame k → IsFrame bytes k
 is_frame bytes k h =
-    let f : ByTests (nat_lt (length bytes) 4) (nat_lt longest (length_of bytes)) (nat_lt (length bytes) (4 + length_of bytes)) (4 + length_of bytes) k = frame_by _ _ _ (4 + length_of bytes) k (sym (lead_is bytes) ∙ h) in
+    let f : ByTests (nat_lt (length bytes) 4) (nat_lt longest_frame (length_of bytes)) (nat_lt (length bytes) (4 + length_of bytes)) (4 + length_of bytes) k = frame_by _ _ _ (4 + length_of bytes) k (sym (lead_is bytes) ∙ h) in
     let all : 4 + length_of bytes ≤ length bytes = ltb-false (length bytes) (4 + length_of bytes) f.1.0 in
-    record { four = ltb-false (length bytes) 4 f.0.0; small = ltb-false longest (length_of bytes) f.0.1; within = omega (arith, all, f.1.1); size = f.1.1 }
+    record { four = ltb-false (length bytes) 4 f.0.0; small = ltb-false longest_frame (length_of bytes) f.0.1; within = omega (arith, all, f.1.1); size = f.1.1 }
 
 lead_frame : (bytes : List ℕ) (k : ℕ) → IsFrame bytes k → lead bytes ≡ leads.Frame k
 lead_frame bytes k f =
     let all : 4 + length_of bytes ≤ length bytes = omega (arith, f.within, f.size) in
     lead_is bytes
-    ∙ (λ i. lead_by (le-ltb (length bytes) 4 f.four i) (le-ltb longest (length_of bytes) f.small i) (le-ltb (length bytes) (4 + length_of bytes) all i) (f.size i))
+    ∙ (λ i. lead_by (le-ltb (length bytes) 4 f.four i) (le-ltb longest_frame (length_of bytes) f.small i) (le-ltb (length bytes) (4 + length_of bytes) all i) (f.size i))
 
 -- and where other bytes follow
 frame_stays : (xs ys : List ℕ) (k : ℕ) → IsFrame xs k → IsFrame (xs ++ ys) k

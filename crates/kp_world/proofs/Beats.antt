@@ -12,7 +12,7 @@ use Rattle.kp_world.specs.Book.{Book}
 use Rattle.kp_world.proofs.Prefixes.{prefix_trans, prefix_length, take_prefix}
 use Rattle.kp_world.proofs.Invariant.{Invariant}
 use Rattle.kp_world.specs.Net.{Stored, full}
-use Rattle.kp_raft.specs.Numbers.{count}
+use Rattle.kp_model.specs.Majority.{count}
 use Rattle.kp_raft.specs.Appends.{lags, append_for, install_with, beat_for, on_beat}
 use Rattle.kp_world.proofs.Takes.{take_length, take_drop}
 use Rattle.kp_world.proofs.Agree.{prefix_join}

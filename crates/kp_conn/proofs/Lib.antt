@@ -1,4 +1,5 @@
 pub mod Cutting
+pub mod Joining
 pub mod Pieces
-pub mod Sent
 pub mod Places
+pub mod Sent

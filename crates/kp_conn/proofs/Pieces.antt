@@ -1,13 +1,15 @@
 -- A piece by the phase of its connection. `seen` is the connection as the code holds it.
-use Rattle.std.proofs.Common.{◌≡◌, ℕ, ◌+◌, List, ◌++◌, None, Bool, true, false, Result, Ok, Err, IfOk, OnOk, refl, ap, sym, subst, ◌∙◌}
+use Rattle.std.proofs.Common.{◌≡◌, ℕ, ◌+◌, List, ◌++◌, None, Bool, true, false, Option, Some, Result, Ok, Err, IfOk, OnOk, refl, ap, sym, subst, ◌∙◌, append_assoc}
 use Rattle.kp_wire.specs.declared.request.Request.{Request}
 use Rattle.kp_conn.specs.declared.fed.Fed.{Fed}
 use Rattle.kp_conn.specs.declared.first.First.{First}
 use Rattle.kp_conn.specs.declared.phase.Phase.{Phase}
 use Rattle.kp_conn.specs.declared.phase.Phase.TheVariants as phase
-use Rattle.kp_conn.specs.Frames.{cut, shown, rest_of}
+use Rattle.kp_conn.specs.Frames.{Cut, cut, shown, rest_of, before}
+use Rattle.kp_conn.specs.declared.fed.FedEnd.TheVariants as ends
+use Rattle.kp_conn.proofs.Joining.{cut_joined}
 use Rattle.kp_conn.specs.Connection.{Connection}
-use Rattle.kp_conn.specs.Fed.{fed, fed_as, fed_cut, fed_first, first, with_piece, nothing, end_if, IsLive}
+use Rattle.kp_conn.specs.Fed.{fed, fed_as, fed_cut, fed_first, first, with_piece, nothing, end_if, end_of, followed, IsLive, PiecesJoin}
 
 -- a new connection
 fed_fresh : (old : Connection) (piece kept : List ℕ) (f : First) (new : Connection) (fd : Fed) → old.phase ≡ phase.Fresh → kept ≡ old.kept ++ piece → f ≡ first kept → fed_first (record old { kept = kept }) f ≡ (new, fd) → fed old piece ≡ (new, fd)
@@ -61,3 +63,25 @@ pub fed_live : (old seen : Connection) (piece kept : List ℕ) (rs : List Reques
 fed_live old seen piece kept rs used bad fd same live is rest read =
     ap (λ (o : Connection). fed o piece) (sym same)
     ∙ fed_cut_so seen piece kept rs used bad fd (subst (λ (o : Connection). IsLive o.phase) (sym same) live) is rest read
+
+-- ---- two pieces
+
+live_fed : (c : Connection) (piece : List ℕ) → IsLive c.phase → fed c piece ≡ fed_cut c (cut c.place (c.kept ++ piece))
+unfolding fed
+live_fed c piece live = live_as c.phase c piece live
+
+none_bad : (bad : Option ℕ) → end_of bad ≡ ends.Ok → bad ≡ None
+none_bad None h = refl
+none_bad (Some at) h = absurd (cc h)
+
+pub pieces_join : PiecesJoin
+pieces_join c a b live well =
+    let u : Cut = cut c.place (c.kept ++ a) in
+    let one : fed c a ≡ fed_cut c u = live_fed c a live in
+    let none : u.bad ≡ None = none_bad u.bad (ap (λ (f : Connection × Fed). f.1.end) (sym one) ∙ well) in
+    let two : fed (fed_cut c u).0 b ≡ fed_cut c (cut u.place (u.rest ++ b)) = live_fed (fed_cut c u).0 b live in
+    live_fed c (a ++ b) live
+    ∙ (λ i. fed_cut c (cut c.place (sym (append_assoc c.kept a b) i)))
+    ∙ ap (fed_cut c) (cut_joined c.place (c.kept ++ a) b none)
+    ∙ (λ i. ((sym two i).0, followed (fed_cut c u).1 (sym two i).1))
+    ∙ (λ i. ((fed (sym one i).0 b).0, followed (sym one i).1 (fed (sym one i).0 b).1))

@@ -1,5 +1,5 @@
 -- What a piece of a client's bytes makes of its connection, and what is read in it.
-use Rattle.std.specs.Prelude.{◌≤◌, ◌+◌, ◌&&◌, nat_le, ℕ, List, [], ◌∷◌, ◌++◌, length, take, drop, map, Bool, true, false, Option, Some, None, Result, Ok, Err, is_some, if◌then◌else◌}
+use Rattle.std.specs.Prelude.{◌≡◌, ◌≤◌, ◌+◌, ◌&&◌, nat_le, ℕ, List, [], ◌∷◌, ◌++◌, length, take, drop, map, Bool, true, false, Option, Some, None, Result, Ok, Err, is_some, if◌then◌else◌}
 use Rattle.std.specs.List.{list_any}
 use Rattle.std.specs.Str.{bytes_eq}
 use Rattle.kp_jute.specs.declared.fault.JuteFail.{JuteFail}
@@ -99,3 +99,12 @@ IsLive p = ⊥
 -- what a piece makes of a connection, and what is read; a piece of no bytes reads what was kept
 unfoldable pub fed : Connection → List ℕ → Connection × Fed
 fed c piece = fed_as c.phase c piece
+
+-- what is read in two pieces, one behind the other
+abbrev pub followed : Fed → Fed → Fed
+followed f g = record f { requests = f.requests ++ g.requests; end = g.end }
+
+-- a stream may be cut anywhere: a piece of a live connection in which no bad frame is met, and one behind it, bring
+-- what they bring as one
+abbrev pub PiecesJoin : Type 0
+PiecesJoin = (c : Connection) (a b : List ℕ) → IsLive c.phase → (fed c a).1.end ≡ ends.Ok → fed c (a ++ b) ≡ ((fed (fed c a).0 b).0, followed (fed c a).1 (fed (fed c a).0 b).1)

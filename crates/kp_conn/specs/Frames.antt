@@ -8,6 +8,7 @@ use Rattle.kp_conn.specs.declared.frames.Turn.{Turn}
 use Rattle.kp_conn.specs.declared.frames.Turn.TheVariants as turns
 use Rattle.kp_conn.specs.declared.frames.Lead.{Lead}
 use Rattle.kp_conn.specs.declared.frames.Lead.TheVariants as leads
+use Rattle.kp_model.specs.Limits.{longest_frame}
 use Rattle.kp_wire.specs.declared.request.Request.{Request}
 use Rattle.kp_wire.specs.Request.{requests}
 
@@ -15,15 +16,11 @@ use Rattle.kp_wire.specs.Request.{requests}
 abbrev pub length_of : List ℕ → ℕ
 length_of bytes = unsigned_of w32 (take 4 bytes)
 
--- the longest frame
-abbrev pub longest : ℕ
-longest = 1048575
-
 -- what the bytes begin with
 unfoldable pub lead : List ℕ → Lead
 lead bytes =
     if nat_lt (length bytes) 4 then leads.Part
-    else (if nat_lt longest (length_of bytes) then leads.Wrong
+    else (if nat_lt longest_frame (length_of bytes) then leads.Wrong
     else (if nat_lt (length bytes) (4 + length_of bytes) then leads.Part
     else leads.Frame (4 + length_of bytes)))
 

@@ -1,6 +1,7 @@
 -- The requests of a connection that wait for their answers, the first at the front.
-use Rattle.std.specs.Prelude.{◌≡◌, ◌≤◌, ◌+◌, ◌^◌, ◌==◌, ℕ, drop, List, [], ◌∷◌, length, Bool, true, false, Option, Some, None, slice_get, slice_set, if◌then◌else◌}
+use Rattle.std.specs.Prelude.{◌≡◌, ◌≤◌, ◌+◌, ◌==◌, ℕ, drop, List, [], ◌∷◌, length, Bool, true, false, Option, Some, None, slice_get, slice_set, if◌then◌else◌}
 use Rattle.std.specs.List.{position_or_len}
+use Rattle.kp_model.specs.Limits.{last_number}
 use Rattle.kp_wire.specs.declared.request.WireAsk.{WireAsk}
 use Rattle.kp_wire.specs.declared.request.WireAsk.TheVariants as ask
 use Rattle.kp_wire.specs.declared.reply.WireReply.{WireReply}
@@ -10,7 +11,7 @@ use Rattle.kp_conn.specs.declared.waiting.Waiting.{Waiting}
 -- a number that has a next one
 abbrev pub SeqFits : Option Mark → Type 0
 SeqFits None = Unit {0}
-SeqFits (Some m) = m.seq ≤ 2 ^ 62
+SeqFits (Some m) = m.seq ≤ last_number
 
 -- the mark has the number
 abbrev pub is_marked : ℕ → Option Mark → Bool

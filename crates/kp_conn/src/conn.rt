@@ -1,10 +1,11 @@
 //! A connection.
 
-ghost use Rattle.std.specs.Prelude.{◌≡◌, ◌≤◌, ◌<◌, ◌+◌, ◌^◌, [], ◌∷◌, ◌++◌, length, take, drop, nat_lt, slice_get, option_copied, option_map, is_some, IsSome, IfOk, OnOk, OnErr};
+ghost use Rattle.std.specs.Prelude.{◌≡◌, ◌≤◌, ◌<◌, ◌+◌, [], ◌∷◌, ◌++◌, length, take, drop, nat_lt, slice_get, option_copied, option_map, is_some, IfOk, OnOk, OnErr};
+ghost use Rattle.kp_model.specs.Limits.{last_number};
 ghost use Rattle.kp_conn.specs.Connection.{blank, put, taken_back, closed, joined, answered, answered_kept, settled, serving, opened, live_as, drained, out_piece};
 ghost use Rattle.kp_conn.specs.Fed.{fed, fed_first, with_piece, nothing, IsLive, LiesIn};
 ghost use Rattle.kp_conn.specs.Packets.{event_packet};
-ghost use Rattle.kp_conn.specs.Queue.{SeqFits, awaited, reply_kept};
+ghost use Rattle.kp_conn.specs.Queue.{SeqFits, awaited};
 ghost use Rattle.kp_conn.specs.declared.phase.Phase.TheVariants as phases;
 ghost use Rattle.kp_conn.specs.declared.first.First.TheVariants as firsts;
 
@@ -16,15 +17,13 @@ use crate::packets::{put_packet, write_connect_packet, write_event_packet, write
 use crate::phase::Phase;
 use crate::queue::{find_number, settle_at};
 use crate::waiting::Waiting;
+use kp_model::limits::LAST_NUMBER;
 use kp_model::{Bytes, Event, NoMemory};
 use kp_region::Region;
 use kp_wire::{ConnectReply, ConnectRequest, WireReply};
 use std::alloc::Global;
 use std::collections::VecDeque;
 use std::marker::Model;
-
-/// The places in a stream that a connection can tell end here.
-const LIMIT: u64 = 1 << 62;
 
 /// One connection of a client: the bytes that came and were not taken yet, the requests that wait, and the packets
 /// that go out. No call looks at a clock, at a state or at another connection.
@@ -42,7 +41,8 @@ pub struct Conn {
 }
 
 impl Model for Conn {
-    ghost use Rattle.std.specs.Prelude.{◌+◌, ◌^◌, ◌≤◌, vec_len};
+    ghost use Rattle.std.specs.Prelude.{◌+◌, ◌≤◌, vec_len};
+    ghost use Rattle.kp_model.specs.Limits.{last_number};
     ghost use Rattle.kp_conn.specs.Connection.{Connection};
     ghost use Rattle.kp_conn.specs.Codes.{connection_code};
 
@@ -52,7 +52,7 @@ impl Model for Conn {
 
     ghost view = { λ c. record { phase = c.phase; kept = c.kept.items; place = c.place; queue = c.queue.items; outbox = c.outbox.strings } };
 
-    ghost invariant = { λ c. c.place + vec_len c.kept ≤ 2 ^ 62 };
+    ghost invariant = { λ c. c.place + vec_len c.kept ≤ last_number };
 }
 
 impl Conn {
@@ -82,7 +82,7 @@ impl Conn {
         ensures ok { IfOk result (λ f. fed self.old piece.now ≡ (self.new, f)) }
         ensures err { OnErr result (self.new ≡ self.old) }
     {
-        if LIMIT - self.place - (self.kept.len() as u64) < piece.len() as u64 {
+        if LAST_NUMBER - self.place - (self.kept.len() as u64) < piece.len() as u64 {
             return Err(NoMemory);
         }
         match self.phase {
@@ -143,9 +143,8 @@ impl Conn {
         self.answer_by(packet)
     }
 
-    /// Answers the request at the front by the reply that it keeps.
+    /// Answers the request at the front by the reply that it keeps. Changes nothing where it keeps none.
     pub fn answer_kept(&mut self, zxid: u64) -> Result<(), NoMemory>
-        requires { IsSome (reply_kept self.old.queue) }
         ensures ok { OnOk result (self.new ≡ answered_kept zxid self.old) }
         ensures err { OnErr result (self.new ≡ self.old) }
     {
@@ -157,7 +156,7 @@ impl Conn {
             },
         ) = self.queue.front()
         else {
-            return Err(NoMemory);
+            return Ok(());
         };
         let packet = write_reply_packet(self.alloc, request.xid, zxid, reply)?;
         self.answer_by(packet)
@@ -280,7 +279,7 @@ impl Conn {
     // A piece of a new connection.
     fn feed_fresh(&mut self, piece: &[u8]) -> Result<Fed, NoMemory>
         requires phase { self.old.phase ≡ phases.Fresh }
-        requires fits { self.old.place + length self.old.kept + length piece.now ≤ 2 ^ 62 }
+        requires fits { self.old.place + length self.old.kept + length piece.now ≤ last_number }
         ensures ok { IfOk result (λ f. fed self.old piece.now ≡ (self.new, f)) }
         ensures err { OnErr result (self.new ≡ self.old) }
     {
@@ -331,7 +330,7 @@ impl Conn {
 
     // A piece of a connecting connection.
     fn keep(&mut self, piece: &[u8]) -> Result<Fed, NoMemory>
-        requires fits { self.old.place + length self.old.kept + length piece.now ≤ 2 ^ 62 }
+        requires fits { self.old.place + length self.old.kept + length piece.now ≤ last_number }
         ensures ok { IfOk result (λ f. f ≡ nothing) }
         ensures kept { OnOk result (self.new ≡ with_piece self.old piece.now) }
         ensures err { OnErr result (self.new ≡ self.old) }
@@ -343,7 +342,7 @@ impl Conn {
     // A piece of a live connection.
     fn feed_live(&mut self, piece: &[u8]) -> Result<Fed, NoMemory>
         requires phase { IsLive self.old.phase }
-        requires fits { self.old.place + length self.old.kept + length piece.now ≤ 2 ^ 62 }
+        requires fits { self.old.place + length self.old.kept + length piece.now ≤ last_number }
         ensures ok { IfOk result (λ f. fed self.old piece.now ≡ (self.new, f)) }
         ensures err { OnErr result (self.new ≡ self.old) }
     {

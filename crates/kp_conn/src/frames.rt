@@ -8,12 +8,10 @@ ghost use Rattle.kp_conn.specs.Frames.{length_of, cut, shown, LiesWithin, Turns}
 ghost use Rattle.kp_conn.specs.Frames as frames;
 ghost use Rattle.kp_conn.specs.declared.frames.Lead.TheVariants as leads;
 
+use kp_model::limits::LONGEST_FRAME;
 use kp_model::{Items, NoMemory};
 use kp_wire::{Request, WireFail, read_request};
 use std::alloc::Global;
-
-/// The longest frame, in bytes behind its length.
-const LONGEST: u32 = 1_048_575;
 
 /// What bytes begin with.
 #[derive(Clone, Copy)]
@@ -53,7 +51,7 @@ pub fn leading(bytes: &[u8]) -> Lead
         return Lead::Part;
     }
     let length = length_of(bytes);
-    if LONGEST < length {
+    if LONGEST_FRAME < length {
         return Lead::Wrong;
     }
     if bytes.len() < 4 + length as usize {

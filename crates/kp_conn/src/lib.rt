@@ -8,6 +8,7 @@ mod feeding;
 mod first;
 mod frames;
 mod kept;
+pub mod laws;
 mod packets;
 mod phase;
 mod queue;

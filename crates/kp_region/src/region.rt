@@ -1,6 +1,7 @@
 //! The region.
 
 ghost use Rattle.std.specs.Prelude.{◌≡◌, ℕ, [], ◌+◌, ◌^◌, ◌<◌, ◌≤◌, ◌↔◌, length, max, option_map, slice_get, IsTrue, IsOk, OnOk, OnErr};
+ghost use Rattle.std.specs.List.{flat_map};
 ghost use Rattle.kp_region.specs.Marked.{no_strings, next_mark, string_at, with_string, without_first, without_last};
 
 use crate::NoMemory;
@@ -190,6 +191,15 @@ impl Region {
             None => None,
             Some(span) => Some(self.window.slice(span.start, span.len)),
         }
+    }
+
+    /// All strings, one behind the other, with the memory in which they lie. Takes none, and moves no byte unless
+    /// strings left at the front.
+    pub fn into_bytes(self) -> Vec<u8>
+        ensures { result.items ≡ flat_map (λ s. s) self.strings }
+    {
+        let Region { window, .. } = self;
+        window.into_bytes()
     }
 }
 

@@ -110,6 +110,21 @@ impl Window {
         let from = (start - self.base) as usize;
         &self.buffer[from..from + len]
     }
+
+    /// The bytes, with their memory.
+    pub(crate) fn into_bytes(self) -> Vec<u8>
+        ensures { result.items ≡ self.bytes }
+    {
+        let Window {
+            mut buffer,
+            dead,
+            ..
+        } = self;
+        if 0 < dead {
+            take_away(&mut buffer, dead);
+        }
+        buffer
+    }
 }
 
 // Takes away the first `dead` bytes. The others move to the front, and the capacity stays.

@@ -1,0 +1,12 @@
+//! Tests of the crates on a client's side of a node, by their public calls: what no clause of theirs says, and that each
+//! call succeeds with ample memory. There is nothing else in this crate.
+#![tactic(auto)]
+
+#[cfg(test)]
+mod connection;
+#[cfg(test)]
+mod cutting;
+#[cfg(test)]
+mod frames;
+#[cfg(test)]
+mod real_clients;

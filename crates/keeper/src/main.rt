@@ -1,6 +1,11 @@
 //! The program: it makes the real objects, hands them to the top call, and ends with the number of its status.
 #![tactic(auto)]
 
+mod help;
+mod told;
+
+use crate::help::asked_for;
+use crate::told::tell;
 use kp_io::{ReaderSource, Seven, WriterSink};
 use kp_top::{Status, run_command};
 use std::env;
@@ -22,21 +27,37 @@ fn words(rt: &(impl Env + AllocGlobal)) -> Option<Vec<String>> {
 }
 
 /// Does what the words say, over standard input and output and blank homes in memory.
-fn run(rt: &HostRuntime) -> Status {
+fn run(rt: &HostRuntime, words: &[String]) -> Status {
     let alloc = rt.alloc();
-    let Some(words) = words(rt) else {
-        return Status::NoMemory;
-    };
     let mut input = ReaderSource::new(rt.stdin());
     let mut output = WriterSink::new(rt.stdout());
     let mut homes = Seven::blank(alloc);
-    run_command(alloc, words.as_slice(), &mut input, &mut output, &mut homes)
+    let status = run_command(alloc, words, &mut input, &mut output, &mut homes);
+    drop(homes);
+    status
+}
+
+/// Prints a text on standard output.
+fn print(rt: &HostRuntime, text: &str) -> Status {
+    match print!(rt; "{text}") {
+        Ok(()) => Status::Done,
+        Err(_) => Status::WriteFault,
+    }
+}
+
+/// Prints what the words ask for before any command, or does what they say.
+fn answer(rt: &HostRuntime, words: &[String]) -> Status {
+    match asked_for(words) {
+        Some(text) => print(rt, text),
+        None => run(rt, words),
+    }
 }
 
 fn main(rt: HostRuntime) -> ExitCode {
-    let status = run(&rt);
-    if !matches!(&status, Status::Done) {
-        let _ = eprintln!(rt; "{status:?}");
-    }
+    let status = match words(&rt) {
+        Some(words) => answer(&rt, words.as_slice()),
+        None => Status::NoMemory,
+    };
+    tell(&rt, &status);
     ExitCode::from(status.code())
 }

@@ -186,7 +186,7 @@ fn kids_left<L: Look>(alloc: Global, look: &L, path: &str, kids: u32) -> Result<
     }
     let up = parent_of(alloc, path)?;
     let count = look.brood(alloc, up.as_str())?;
-    Ok(count.saturating_sub(1).min(LAST_COUNT as usize) as u32)
+    Ok(count.saturating_sub(1).min(LAST_COUNT as u64) as u32)
 }
 
 // A node is removed, and its parent shows so many children then.

@@ -1,5 +1,5 @@
 //! What the print calls append.
-use kp_model::{Acl, Items, Meta, NoMemory, Origin, Reply, Session, Text};
+use kp_model::{Acls, Items, Meta, NoMemory, Origin, Paths, Reply, Session, Text};
 use kp_text::{
     print_acls, print_data, print_names, print_reply, print_session, print_stat, print_text,
 };
@@ -48,19 +48,30 @@ fn print_node(out: &mut Vec<u8>) -> Result<(), NoMemory> {
     line_end(out)
 }
 
-fn print_lists(alloc: Global, out: &mut Vec<u8>) -> Result<(), NoMemory> {
-    let acl = Acl {
-        perms: 31,
-        scheme: Text::from_str(alloc, "world")?,
-        id: Text::from_str(alloc, "anyone")?,
-    };
-    let mut acls = Items::new(alloc);
-    acls.push(acl)?;
-    let mut names = Items::new(alloc);
+fn print_list(alloc: Global, out: &mut Vec<u8>) -> Result<(), NoMemory> {
+    let acls = Acls::everyone(alloc)?;
+    let printed = print_acls(acls.as_slice(), out);
+    drop(acls);
+    printed
+}
+
+fn add_names(alloc: Global, names: &mut Paths) -> Result<(), NoMemory> {
     names.push(Text::from_str(alloc, "a")?)?;
-    names.push(Text::from_str(alloc, "b")?)?;
-    print_acls(acls.as_slice(), out)?;
-    print_names(names.as_slice(), out)?;
+    names.push(Text::from_str(alloc, "b")?)
+}
+
+fn print_both_names(alloc: Global, out: &mut Vec<u8>) -> Result<(), NoMemory> {
+    let mut names = Paths::new(alloc);
+    let added = add_names(alloc, &mut names);
+    let printed = print_names(names.as_slice(), out);
+    drop(names);
+    added?;
+    printed
+}
+
+fn print_lists(alloc: Global, out: &mut Vec<u8>) -> Result<(), NoMemory> {
+    print_list(alloc, out)?;
+    print_both_names(alloc, out)?;
     line_end(out)
 }
 
@@ -77,12 +88,16 @@ fn print_holder(alloc: Global, out: &mut Vec<u8>) -> Result<(), NoMemory> {
             conn: 5,
         },
     };
-    print_session(&session, out)?;
+    let printed = print_session(&session, out);
+    drop(session);
+    printed?;
     line_end(out)
 }
 
 fn print_one(reply: Reply, out: &mut Vec<u8>) -> Result<(), NoMemory> {
-    print_reply(&reply, out)?;
+    let printed = print_reply(&reply, out);
+    drop(reply);
+    printed?;
     line_end(out)
 }
 
@@ -101,14 +116,18 @@ fn print_replies(alloc: Global, out: &mut Vec<u8>) -> Result<(), NoMemory> {
     print_failed(alloc, out)
 }
 
+fn print_all(alloc: Global, out: &mut Vec<u8>) -> Result<(), NoMemory> {
+    print_both_data(out)?;
+    print_node(out)?;
+    print_lists(alloc, out)?;
+    print_holder(alloc, out)?;
+    print_replies(alloc, out)
+}
+
 /// Whether the calls print these texts, one behind another.
 fn are_printed(alloc: Global) -> Result<bool, NoMemory> {
     let mut out = Vec::new(alloc);
-    print_both_data(&mut out)?;
-    print_node(&mut out)?;
-    print_lists(alloc, &mut out)?;
-    print_holder(alloc, &mut out)?;
-    print_replies(alloc, &mut out)?;
+    print_all(alloc, &mut out)?;
     Ok(out.as_slice() == PRINTED)
 }
 

@@ -16,7 +16,7 @@ use Rattle.kp_plain.specs.Kept.{Keeps}
 
 pub keeps_none : Keeps empty []
 unfolding empty
-keeps_none = record { sound = empty_sound; room = omega arith; taken = λ k d lt. absurd (omega (arith, lt)) }
+keeps_none = record { room = omega arith; taken = λ k d lt. absurd (omega (arith, lt)) }
 
 one_taken : (e : LogEntry) → IsEntry e → All IsEntry (e ∷ [])
 one_taken e h zero d lt = h
@@ -24,14 +24,9 @@ one_taken e h (suc k) d lt = absurd (omega (arith, lt))
 
 pub keeps_more : (s : State) (es : List LogEntry) (e : LogEntry) → Keeps s es → s.applied + length es < 4611686018427387904 → IsEntry e → Keeps s (es ++ e ∷ [])
 keeps_more s es e h lt t = record {
-  sound = h.sound;
   room = omega (arith, length-append es (e ∷ []));
   taken = All-append IsEntry es (e ∷ []) h.taken (one_taken e t);
 }
-
--- the uncommitted state is sound
-pub latest_sound : (s : State) (es : List LogEntry) → Keeps s es → IsSound (after s es)
-latest_sound s es h = after_sound s es (list_all-from_AllPass is_entry es h.taken) h.room h.sound
 
 -- the entry at a place
 pub taken_at : (es : List LogEntry) (i : ℕ) (e : LogEntry) → All IsEntry es → i < length es → e ≡ get_or es i e → IsEntry e

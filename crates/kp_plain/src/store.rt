@@ -18,6 +18,10 @@ use std::marker::Model;
 ///
 /// No call but `new`, `preprocess`, `commit`, `kept`, `peek`, `see` and `who` takes memory. Where one of
 /// these finds none, it answers `NoMemory`, and the store is as it was.
+///
+/// The calls that apply entries have the condition that the committed state is sound. That of a new
+/// store is, and each call leaves it so; it is no part of the type, so that a state may be poured in
+/// piece by piece.
 #[derive(Drop)]
 pub struct PlainStore {
     alloc: Global,
@@ -39,7 +43,7 @@ impl Model for PlainStore {
     ghost invariant = { λ x. Keeps x.state x.unapplied.items };
 }
 
-// A copy of an entry, which keeps its grammar.
+// A copy of an entry, which keeps its grammar: to lend a field opens what an entry's type says of it.
 fn copied(alloc: Global, entry: &Entry) -> Result<Entry, NoMemory>
     ensures same { IfOk result (λ made. made ≡ entry.now) }
     ensures grammar { IsTrue (is_entry entry.now) }
@@ -129,7 +133,8 @@ fn first_applied(
 impl PlainStore {
     /// The empty store, which takes its memory from this allocator.
     pub fn new(alloc: Global) -> Result<PlainStore, NoMemory>
-        ensures { IfOk result (λ x. x ≡ empty) }
+        ensures value { IfOk result (λ x. x ≡ empty) }
+        ensures sound { IfOk result (λ x. IsSound x.state) }
     {
         Ok(PlainStore {
             alloc,
@@ -167,9 +172,11 @@ impl PlainStore {
     /// Applies the first unapplied entry to the committed state, and answers its index, its reply and its
     /// events. None exactly where there is no such entry.
     pub fn commit(&mut self) -> Result<Option<Committed>, NoMemory>
+        requires sound { IsSound self.old.state }
         ensures answer { IfOk result (λ c. c ≡ commit_answer self.old.state self.old.unapplied) }
         ensures ok { OnOk result (self.new ≡ commit_leaves self.old.state self.old.unapplied) }
         ensures err { OnErr result (self.new ≡ self.old) }
+        ensures sound { IsSound self.new.state }
     {
         if self.unapplied.is_empty() {
             return Ok(None);
@@ -193,6 +200,7 @@ impl PlainStore {
     /// What the unapplied entry of this index was answered when it was added; None exactly where there is
     /// no such entry.
     pub fn kept(&self, index: u64) -> Result<Option<Reply>, NoMemory>
+        requires sound { IsSound self.now.state }
         ensures { IfOk result (λ r. r ≡ kept_of self.now index) }
     {
         if index <= self.state.applied() {
@@ -204,6 +212,7 @@ impl PlainStore {
 
     /// The data and the numbers of a node of the uncommitted state; None exactly where there is none.
     pub fn peek(&self, path: &str) -> Result<Option<Seen>, NoMemory>
+        requires sound { IsSound self.now.state }
         ensures { IfOk result (λ seen. seen ≡ seen_of (latest self.now).nodes path.now) }
     {
         let tree = replayed(self.alloc, &self.state, self.unapplied.as_slice())?;
@@ -219,6 +228,7 @@ impl PlainStore {
 
     /// A session of the uncommitted state; None exactly where there is none of this number.
     pub fn who(&self, session: u64) -> Result<Option<Session>, NoMemory>
+        requires sound { IsSound self.now.state }
         ensures { IfOk result (λ found. found ≡ map.get (latest self.now).sessions session) }
     {
         let tree = replayed(self.alloc, &self.state, self.unapplied.as_slice())?;

@@ -72,6 +72,10 @@ total_append (x ∷ xs) ys = omega (arith, total_append xs ys)
 pub total_next : (first i : ℕ) (es : List LogEntry) (e : LogEntry) → first ≤ i → i < length es → slice_get es i ≡ Some e → total (part_of first (i + 1) es) ≡ total (part_of first i es) + length (entries.spell e)
 total_next first i es e le lt is = ap total (part_next first i es e le lt is) ∙ total_append (part_of first i es) (e ∷ []) ∙ omega arith
 
+none_of : (n : ℕ) → drop {A = LogEntry} n [] ≡ []
+none_of zero = refl
+none_of (suc n) = refl
+
 -- the part up to a place is the beginning of the part up to a later one
 total_grows : (first i until : ℕ) (es : List LogEntry) → i ≤ until → total (part_of first i es) ≤ total (part_of first until es)
 total_grows first zero until es le = omega (arith, ap total (none_of first))
@@ -152,3 +156,14 @@ past_ends n k room xs all is so_far = batch_ends n k room xs all (batch_none n r
 
 pub most_ends : (n k room : ℕ) (xs all : List LogEntry) → n ≡ 0 → all ≡ take k xs ++ batch n room (drop k xs) → take k xs ≡ all
 most_ends n k room xs all is so_far = batch_ends n k room xs all (ap (λ (m : ℕ). batch m room (drop k xs)) is) so_far
+
+-- what is there at a place
+pub there : (xs : List LogEntry) (k : ℕ) → k < length xs → slice_get xs k ≡ None → ⊥
+there [] k lt is = absurd (omega (arith, lt))
+there (x ∷ xs) zero lt is = absurd (cc is)
+there (x ∷ xs) (suc k) lt is = there xs k (omega (arith, lt)) is
+
+pub found_within : (xs : List LogEntry) (k : ℕ) (e : LogEntry) → slice_get xs k ≡ Some e → k + 1 ≤ length xs
+found_within [] k e is = absurd (cc is)
+found_within (x ∷ xs) zero e is = omega arith
+found_within (x ∷ xs) (suc k) e is = omega (arith, found_within xs k e is)

@@ -22,10 +22,11 @@ pub(crate) struct Extent {
 }
 
 /// How much of what stands behind the index one message takes.
-pub(crate) fn extent(log: &RaftLog, after: u64) -> Extent
+pub(crate) fn batch_extent(log: &RaftLog, after: u64) -> Extent
     requires { log.now.base ≤ after }
     ensures taken { take result.count (behind log.now after) ≡ batch 64 1048576 (behind log.now after) }
     ensures within { result.count ≤ length (behind log.now after) }
+    ensures range { last_index log.now ≤ 2 ^ 62 }
 {
     if log.last() <= after {
         return Extent { count: 0, bytes: 0 };
@@ -46,11 +47,13 @@ fn extent_behind(log: &RaftLog, after: u64) -> Extent
         if room == 0 {
             return Extent { count, bytes };
         }
-        let Some(entry) = log.bytes_at(after + count + 1) else {
-            return Extent { count, bytes };
-        };
-        room = room.saturating_sub(entry.len());
-        bytes = bytes.saturating_add(entry.len());
+        match log.bytes_at(after + count + 1) {
+            None => return Extent { count, bytes },
+            Some(entry) => {
+                room = room.saturating_sub(entry.len());
+                bytes = bytes.saturating_add(entry.len());
+            }
+        }
     }
     Extent {
         count: MOST_ENTRIES,
@@ -67,6 +70,7 @@ pub(crate) fn copy_behind(
 ) -> Result<(), NoMemory>
     requires from { log.now.base ≤ after }
     requires within { extent.count ≤ length (behind log.now after) }
+    requires range { last_index log.now ≤ 2 ^ 62 }
     requires none { out.old ≡ [] }
     ensures { OnOk result (out.new ≡ take extent.count (behind log.now after)) }
 {
@@ -82,6 +86,7 @@ pub(crate) fn copy_behind(
 fn bytes_behind(log: &RaftLog, after: u64, index: u64) -> &[u8]
     requires from { log.now.base ≤ after }
     requires within { index < length (behind log.now after) }
+    requires range { last_index log.now ≤ 2 ^ 62 }
     ensures bytes { Some result.now ≡ option_map entries.spell (slice_get (behind log.now after) index) }
     ensures fits { IfSome (slice_get (behind log.now after) index) entries.Fits }
 {

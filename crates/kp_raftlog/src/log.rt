@@ -5,7 +5,7 @@ ghost use Rattle.kp_entry.specs.Entries.{entries};
 ghost use Rattle.kp_entry.specs.Heads.{part_of};
 ghost use Rattle.kp_entry.specs.Log.{based_at, batch, behind, last_index, term_at, entry_at, with_entries, truncated, compacted};
 
-use crate::batch::{copy_behind, extent};
+use crate::batch::{batch_extent, copy_behind};
 use crate::strings::{pop_before, pop_behind, push_all, total_len};
 use kp_entry::{Entries, encode, spelled_term};
 use kp_model::{Entry, NoMemory};
@@ -110,7 +110,7 @@ impl RaftLog {
         requires { self.now.base ≤ after }
         ensures { IfOk result (λ es. es ≡ batch 64 1048576 (behind self.now after)) }
     {
-        let extent = extent(self, after);
+        let extent = batch_extent(self, after);
         let mut out = Entries::new(self.alloc);
         match copy_behind(self, after, extent, &mut out) {
             Ok(()) => Ok(out),

@@ -50,7 +50,7 @@ impl Model for Storage {
     ghost invariant = { λ x. Keeps x.cells x.entries.items x.answers.items };
 }
 
-// A copy of an entry, which keeps its grammar.
+// A copy of an entry, which keeps its grammar: to lend a field opens what an entry's type says of it.
 fn copied(alloc: Global, entry: &Entry) -> Result<Entry, NoMemory>
     ensures same { IfOk result (λ made. made ≡ entry.now) }
     ensures grammar { IsTrue (is_entry entry.now) }
@@ -87,7 +87,8 @@ impl Storage {
         self.cells.applied() + self.entries.len() as u64
     }
 
-    /// The committed state and the uncommitted one are sound. Does nothing.
+    /// The committed state and the uncommitted one are sound. Does nothing: to lend a field opens what
+    /// the type says of the storage.
     pub fn stays_sound(&self)
         ensures committed { IsSound self.now.state }
         ensures latest { IsSound (latest_of self.now) }

@@ -10,8 +10,8 @@ mod printed;
 use crate::agreement::bodies::read_body;
 use crate::agreement::drawn::{Dice, PLACES, Place, below, line, path, session};
 use crate::agreement::printed::{done_text, kept_text, kids_text, seen_text, who_text};
+use crate::sound::{Sound, blank};
 use kp_model::{Body, Entry, NoMemory, Paths, Seen, Text, View};
-use kp_plain::PlainStore;
 use kp_storage::Storage;
 use std::alloc::Global;
 use std::test::Fail;
@@ -23,14 +23,14 @@ const MANY: u64 = 100000;
 #[derive(Drop)]
 struct Both {
     layered: Storage,
-    plain: PlainStore,
+    plain: Sound,
 }
 
 /// Adds an entry to both.
 fn put(both: &mut Both, entry: &Entry) -> Result<(), NoMemory> {
-    if both.layered.last() < MANY && both.plain.last() < MANY {
+    if both.layered.last() < MANY && both.plain.store.last() < MANY {
         both.layered.preprocess(entry)?;
-        both.plain.preprocess(entry)?;
+        both.plain.store.preprocess(entry)?;
     }
     Ok(())
 }
@@ -47,8 +47,8 @@ fn enter(both: &mut Both, n: u64, body: Body) -> Result<(), NoMemory>
 }
 
 /// What the plain store kept for its last entry.
-fn plain_kept(alloc: Global, plain: &PlainStore) -> Result<Vec<u8>, NoMemory> {
-    let reply = plain.kept(plain.last())?;
+fn plain_kept(alloc: Global, plain: &Sound) -> Result<Vec<u8>, NoMemory> {
+    let reply = plain.store.kept(plain.store.last())?;
     let text = kept_text(alloc, reply.as_ref());
     drop(reply);
     text
@@ -91,8 +91,8 @@ fn layered_done(alloc: Global, layered: &mut Storage) -> Result<Vec<u8>, NoMemor
 }
 
 /// What is printed of a commit of the plain store.
-fn plain_done(alloc: Global, plain: &mut PlainStore) -> Result<Vec<u8>, NoMemory> {
-    let done = plain.commit()?;
+fn plain_done(alloc: Global, plain: &mut Sound) -> Result<Vec<u8>, NoMemory> {
+    let done = plain.store.commit()?;
     let text = done_text(alloc, done.as_ref());
     drop(done);
     text
@@ -111,10 +111,12 @@ fn truncate(dice: &mut Dice, both: &mut Both) -> bool {
     let (applied, last) = (both.layered.applied(), both.layered.last());
     let at = applied + dice.roll(last - applied + 1);
     both.layered.truncate(at);
-    if both.plain.applied() <= at && at <= both.plain.last() {
-        both.plain.truncate(at);
+    if both.plain.store.applied() <= at && at <= both.plain.store.last() {
+        both.plain.store.truncate(at);
     }
-    both.layered.last() == at && both.plain.last() == at && both.plain.applied() == applied
+    both.layered.last() == at
+        && both.plain.store.last() == at
+        && both.plain.store.applied() == applied
 }
 
 /// The n-th step. Whether both print the same.
@@ -142,23 +144,23 @@ fn plain_seen(alloc: Global, seen: Option<Seen>) -> Result<Vec<u8>, NoMemory> {
 fn same_peek(alloc: Global, both: &Both, at: &str) -> Result<bool, NoMemory> {
     let store = &both.layered;
     let layered = seen_text(alloc, store.latest_data(at), store.latest_meta(at))?;
-    let plain = plain_seen(alloc, both.plain.peek(at)?)?;
+    let plain = plain_seen(alloc, both.plain.store.peek(at)?)?;
     Ok(layered.as_slice() == plain.as_slice())
 }
 
 fn same_see(alloc: Global, both: &Both, at: &str) -> Result<bool, NoMemory> {
     let store = &both.layered;
     let layered = seen_text(alloc, store.committed_data(at), store.committed_meta(at))?;
-    let plain = plain_seen(alloc, both.plain.see(at)?)?;
+    let plain = plain_seen(alloc, both.plain.store.see(at)?)?;
     Ok(layered.as_slice() == plain.as_slice())
 }
 
 /// Whether the plain store has this node, in its committed or its uncommitted state.
-fn has(plain: &PlainStore, path: &str, committed: bool) -> Result<bool, NoMemory> {
+fn has(plain: &Sound, path: &str, committed: bool) -> Result<bool, NoMemory> {
     let seen = if committed {
-        plain.see(path)?
+        plain.store.see(path)?
     } else {
-        plain.peek(path)?
+        plain.store.peek(path)?
     };
     let there = seen.is_some();
     drop(seen);
@@ -166,11 +168,11 @@ fn has(plain: &PlainStore, path: &str, committed: bool) -> Result<bool, NoMemory
 }
 
 /// The number of children that the plain store tells of a node; None where it has none.
-fn plain_count(plain: &PlainStore, path: &str, committed: bool) -> Result<Option<u32>, NoMemory> {
+fn plain_count(plain: &Sound, path: &str, committed: bool) -> Result<Option<u32>, NoMemory> {
     let seen = if committed {
-        plain.see(path)?
+        plain.store.see(path)?
     } else {
-        plain.peek(path)?
+        plain.store.peek(path)?
     };
     let count = match &seen {
         None => None,
@@ -183,7 +185,7 @@ fn plain_count(plain: &PlainStore, path: &str, committed: bool) -> Result<Option
 /// Those of the names below a path that the plain store has there.
 fn names_there(
     alloc: Global,
-    plain: &PlainStore,
+    plain: &Sound,
     at: &str,
     names: &Paths,
     committed: bool,
@@ -215,18 +217,13 @@ fn is_among(names: &[Text], name: &str) -> bool {
 }
 
 /// Whether the name of a place is among those below its parent exactly where the plain store has the place.
-fn is_told(
-    plain: &PlainStore,
-    place: &Place,
-    names: &Paths,
-    committed: bool,
-) -> Result<bool, NoMemory> {
+fn is_told(plain: &Sound, place: &Place, names: &Paths, committed: bool) -> Result<bool, NoMemory> {
     Ok(is_among(names.as_slice(), place.name) == has(plain, place.path, committed)?)
 }
 
 /// Whether the names below a path tell of the places there as the plain store does.
 fn are_places_told(
-    plain: &PlainStore,
+    plain: &Sound,
     at: &str,
     names: &Paths,
     committed: bool,
@@ -243,7 +240,7 @@ fn are_places_told(
 /// What the plain store prints of the children, of which it is asked for each name.
 fn plain_kids(
     alloc: Global,
-    plain: &PlainStore,
+    plain: &Sound,
     at: &str,
     names: &Paths,
     committed: bool,
@@ -264,7 +261,7 @@ fn listed<V: View>(alloc: Global, view: &V, at: &str, names: &Paths) -> Result<V
 
 /// Whether these are the names of all children that the plain store has: ascending, as many as it tells, and with
 /// those of the places.
-fn are_all(plain: &PlainStore, at: &str, names: &Paths, committed: bool) -> Result<bool, NoMemory> {
+fn are_all(plain: &Sound, at: &str, names: &Paths, committed: bool) -> Result<bool, NoMemory> {
     let count = plain_count(plain, at, committed)?;
     let counted = count.unwrap_or(0) as usize == names.len();
     Ok(counted && are_ascending(names.as_slice()) && are_places_told(plain, at, names, committed)?)
@@ -294,8 +291,8 @@ fn same_ls(alloc: Global, both: &Both, at: &str) -> Result<bool, NoMemory> {
     Ok(all && layered.as_slice() == plain.as_slice())
 }
 
-fn plain_who(alloc: Global, plain: &PlainStore, session: u64) -> Result<Vec<u8>, NoMemory> {
-    let found = plain.who(session)?;
+fn plain_who(alloc: Global, plain: &Sound, session: u64) -> Result<Vec<u8>, NoMemory> {
+    let found = plain.store.who(session)?;
     let text = who_text(alloc, found.as_ref());
     drop(found);
     text
@@ -362,11 +359,10 @@ fn agreeing_of(alloc: Global, both: &mut Both) -> Result<u64, NoMemory> {
 
 /// Those of a run on empty stores.
 fn run(alloc: Global) -> Result<u64, NoMemory> {
-    let plain = PlainStore::new(alloc)?;
-    run_beside(alloc, plain)
+    run_beside(alloc, blank(alloc)?)
 }
 
-fn run_beside(alloc: Global, plain: PlainStore) -> Result<u64, NoMemory> {
+fn run_beside(alloc: Global, plain: Sound) -> Result<u64, NoMemory> {
     match Storage::new(alloc) {
         Ok(layered) => {
             let mut both = Both { layered, plain };

@@ -2,9 +2,9 @@
 ghost use Rattle.std.specs.Prelude.{◌≤◌, length, IsTrue, IfOk};
 ghost use Rattle.kp_model.specs.Grammar.{fits_cmd};
 
+use crate::sound::{Sound, blank};
 use kp_model::errors::NOT_EMPTY;
-use kp_model::{Acl, Body, Bytes, Cmd, Entry, Items, NoMemory, Origin, Reply, Seen, Text};
-use kp_plain::PlainStore;
+use kp_model::{Acls, Body, Bytes, Cmd, Entry, NoMemory, Origin, Reply, Seen, Text};
 use std::alloc::Global;
 use std::test::Fail;
 
@@ -43,28 +43,28 @@ fn write(seq: u64, cmd: Cmd) -> Entry
 }
 
 // Adds an entry to a store that has room for it.
-fn add(store: &mut PlainStore, entry: &Entry) -> Result<(), NoMemory> {
-    if store.last() < 1 << 62 {
-        store.preprocess(entry)?;
+fn add(plain: &mut Sound, entry: &Entry) -> Result<(), NoMemory> {
+    if plain.store.last() < 1 << 62 {
+        plain.store.preprocess(entry)?;
     }
     Ok(())
 }
 
 // Opens the first session.
-fn begin(store: &mut PlainStore) -> Result<(), NoMemory> {
+fn begin(plain: &mut Sound) -> Result<(), NoMemory> {
     let entry = open();
-    let added = add(store, &entry);
+    let added = add(plain, &entry);
     drop(entry);
     added
 }
 
 // A command of the first session.
-fn enter(store: &mut PlainStore, seq: u64, cmd: Cmd) -> Result<(), NoMemory>
+fn enter(plain: &mut Sound, seq: u64, cmd: Cmd) -> Result<(), NoMemory>
     requires number { seq ≤ 100 }
     requires fits { IsTrue (fits_cmd cmd) }
 {
     let entry = write(seq, cmd);
-    let added = add(store, &entry);
+    let added = add(plain, &entry);
     drop(entry);
     added
 }
@@ -72,7 +72,7 @@ fn enter(store: &mut PlainStore, seq: u64, cmd: Cmd) -> Result<(), NoMemory>
 // Creates a node that is open to everyone.
 fn create(
     alloc: Global,
-    store: &mut PlainStore,
+    plain: &mut Sound,
     seq: u64,
     path: &str,
     bytes: &[u8],
@@ -81,30 +81,18 @@ fn create(
     requires path { length path.now ≤ 100 }
     requires bytes { length bytes.now ≤ 100 }
 {
-    let mut acl = Items::new(alloc);
-    acl.push(Acl {
-        perms: 31,
-        scheme: Text::from_str(alloc, "world")?,
-        id: Text::from_str(alloc, "anyone")?,
-    })?;
     let cmd = Cmd::Create {
         path: Text::from_str(alloc, path)?,
         bytes: Bytes::from_vec(Vec::from_slice(alloc, bytes)?),
-        acl,
+        acl: Acls::everyone(alloc)?,
         flags: 0,
         stat: false,
     };
-    enter(store, seq, cmd)
+    enter(plain, seq, cmd)
 }
 
 // Sets the data of a node of any version.
-fn set(
-    alloc: Global,
-    store: &mut PlainStore,
-    seq: u64,
-    path: &str,
-    bytes: &[u8],
-) -> Result<(), NoMemory>
+fn set(alloc: Global, plain: &mut Sound, seq: u64, path: &str, bytes: &[u8]) -> Result<(), NoMemory>
     requires number { seq ≤ 100 }
     requires path { length path.now ≤ 100 }
     requires bytes { length bytes.now ≤ 100 }
@@ -114,11 +102,11 @@ fn set(
         bytes: Bytes::from_vec(Vec::from_slice(alloc, bytes)?),
         version: u32::MAX,
     };
-    enter(store, seq, cmd)
+    enter(plain, seq, cmd)
 }
 
 // Deletes a node of any version.
-fn delete(alloc: Global, store: &mut PlainStore, seq: u64, path: &str) -> Result<(), NoMemory>
+fn delete(alloc: Global, plain: &mut Sound, seq: u64, path: &str) -> Result<(), NoMemory>
     requires number { seq ≤ 100 }
     requires path { length path.now ≤ 100 }
 {
@@ -126,13 +114,13 @@ fn delete(alloc: Global, store: &mut PlainStore, seq: u64, path: &str) -> Result
         path: Text::from_str(alloc, path)?,
         version: u32::MAX,
     };
-    enter(store, seq, cmd)
+    enter(plain, seq, cmd)
 }
 
 // Forgets the entries behind an index of the store.
-fn cut(store: &mut PlainStore, last: u64) {
-    if store.applied() <= last && last <= store.last() {
-        store.truncate(last);
+fn cut(plain: &mut Sound, last: u64) {
+    if plain.store.applied() <= last && last <= plain.store.last() {
+        plain.store.truncate(last);
     }
 }
 
@@ -160,8 +148,8 @@ enum Said {
 }
 
 // Whether the entry of this index was answered so.
-fn keeps(store: &PlainStore, index: u64, expected: Said) -> Result<bool, NoMemory> {
-    let reply = store.kept(index)?;
+fn keeps(plain: &Sound, index: u64, expected: Said) -> Result<bool, NoMemory> {
+    let reply = plain.store.kept(index)?;
     let said = match &reply {
         Some(Reply::Session(id)) => Said::Session(*id),
         Some(Reply::Done) => Said::Done,
@@ -173,16 +161,16 @@ fn keeps(store: &PlainStore, index: u64, expected: Said) -> Result<bool, NoMemor
 }
 
 // The index of the entry that is committed; None where there is none.
-fn committed(store: &mut PlainStore) -> Result<Option<u64>, NoMemory> {
-    let done = store.commit()?;
+fn committed(plain: &mut Sound) -> Result<Option<u64>, NoMemory> {
+    let done = plain.store.commit()?;
     let index = done.as_ref().map(|done| done.index);
     drop(done);
     Ok(index)
 }
 
 // Whether the first session has this running number.
-fn has_written(store: &PlainStore, seq: u64) -> Result<bool, NoMemory> {
-    let session = store.who(1)?;
+fn has_written(plain: &Sound, seq: u64) -> Result<bool, NoMemory> {
+    let session = plain.store.who(1)?;
     let written = match &session {
         Some(session) => session.timeout == 30000 && session.seq == seq,
         None => false,
@@ -192,56 +180,56 @@ fn has_written(store: &PlainStore, seq: u64) -> Result<bool, NoMemory> {
 }
 
 // Whether a creation is seen in the uncommitted state alone.
-fn is_created(alloc: Global, store: &mut PlainStore) -> Result<bool, NoMemory> {
-    begin(store)?;
-    create(alloc, store, 1, "/a", b"hi")?;
-    let kept = keeps(store, 1, Said::Session(1))?;
-    let unseen = store.see("/a")?.is_none();
-    let seen = shows(store.peek("/a")?, b"hi", 2, 0);
-    Ok(kept && unseen && seen && has_written(store, 1)?)
+fn is_created(alloc: Global, plain: &mut Sound) -> Result<bool, NoMemory> {
+    begin(plain)?;
+    create(alloc, plain, 1, "/a", b"hi")?;
+    let kept = keeps(plain, 1, Said::Session(1))?;
+    let unseen = plain.store.see("/a")?.is_none();
+    let seen = shows(plain.store.peek("/a")?, b"hi", 2, 0);
+    Ok(kept && unseen && seen && has_written(plain, 1)?)
 }
 
 // Whether it is seen when it is committed.
-fn is_committed(store: &mut PlainStore) -> Result<bool, NoMemory> {
-    let first = committed(store)? == Some(1);
-    let second = committed(store)? == Some(2);
-    let none = committed(store)?.is_none();
-    let seen = shows(store.see("/a")?, b"hi", 2, 0);
-    Ok(first && second && none && store.applied() == 2 && seen)
+fn is_committed(plain: &mut Sound) -> Result<bool, NoMemory> {
+    let first = committed(plain)? == Some(1);
+    let second = committed(plain)? == Some(2);
+    let none = committed(plain)?.is_none();
+    let seen = shows(plain.store.see("/a")?, b"hi", 2, 0);
+    Ok(first && second && none && plain.store.applied() == 2 && seen)
 }
 
-fn creation(alloc: Global, store: &mut PlainStore) -> Result<bool, NoMemory> {
-    let created = is_created(alloc, store)?;
-    Ok(is_committed(store)? && created)
+fn creation(alloc: Global, plain: &mut Sound) -> Result<bool, NoMemory> {
+    let created = is_created(alloc, plain)?;
+    Ok(is_committed(plain)? && created)
 }
 
 // Whether a truncation takes the last data back.
-fn data(alloc: Global, store: &mut PlainStore) -> Result<bool, NoMemory> {
-    begin(store)?;
-    create(alloc, store, 1, "/a", b"")?;
-    set(alloc, store, 2, "/a", &[1])?;
-    set(alloc, store, 3, "/a", &[2])?;
-    set(alloc, store, 4, "/a", &[3])?;
-    cut(store, 4);
-    Ok(store.last() == 4 && shows(store.peek("/a")?, &[2], 4, 2))
+fn data(alloc: Global, plain: &mut Sound) -> Result<bool, NoMemory> {
+    begin(plain)?;
+    create(alloc, plain, 1, "/a", b"")?;
+    set(alloc, plain, 2, "/a", &[1])?;
+    set(alloc, plain, 3, "/a", &[2])?;
+    set(alloc, plain, 4, "/a", &[3])?;
+    cut(plain, 4);
+    Ok(plain.store.last() == 4 && shows(plain.store.peek("/a")?, &[2], 4, 2))
 }
 
 // A node and its child, which both go.
-fn make_and_delete(alloc: Global, store: &mut PlainStore) -> Result<(), NoMemory> {
-    begin(store)?;
-    create(alloc, store, 1, "/p", b"")?;
-    create(alloc, store, 2, "/p/c", b"")?;
-    delete(alloc, store, 3, "/p/c")?;
-    delete(alloc, store, 4, "/p")
+fn make_and_delete(alloc: Global, plain: &mut Sound) -> Result<(), NoMemory> {
+    begin(plain)?;
+    create(alloc, plain, 1, "/p", b"")?;
+    create(alloc, plain, 2, "/p/c", b"")?;
+    delete(alloc, plain, 3, "/p/c")?;
+    delete(alloc, plain, 4, "/p")
 }
 
 // Whether a truncation takes deletions back, so that the node can't go.
-fn deletions(alloc: Global, store: &mut PlainStore) -> Result<bool, NoMemory> {
-    make_and_delete(alloc, store)?;
-    let gone = keeps(store, 5, Said::Done)?;
-    cut(store, 3);
-    delete(alloc, store, 3, "/p")?;
-    Ok(gone && keeps(store, 4, Said::Err(NOT_EMPTY))?)
+fn deletions(alloc: Global, plain: &mut Sound) -> Result<bool, NoMemory> {
+    make_and_delete(alloc, plain)?;
+    let gone = keeps(plain, 5, Said::Done)?;
+    cut(plain, 3);
+    delete(alloc, plain, 3, "/p")?;
+    Ok(gone && keeps(plain, 4, Said::Err(NOT_EMPTY))?)
 }
 
 // The stories.
@@ -252,19 +240,19 @@ enum Story {
     Deletions,
 }
 
-fn tell(alloc: Global, store: &mut PlainStore, story: Story) -> Result<bool, NoMemory> {
+fn tell(alloc: Global, plain: &mut Sound, story: Story) -> Result<bool, NoMemory> {
     match story {
-        Story::Creation => creation(alloc, store),
-        Story::Data => data(alloc, store),
-        Story::Deletions => deletions(alloc, store),
+        Story::Creation => creation(alloc, plain),
+        Story::Data => data(alloc, plain),
+        Story::Deletions => deletions(alloc, plain),
     }
 }
 
 // Whether a story goes as it must, on an empty store.
 fn goes(alloc: Global, story: Story) -> Result<bool, NoMemory> {
-    let mut store = PlainStore::new(alloc)?;
-    let told = tell(alloc, &mut store, story);
-    drop(store);
+    let mut plain = blank(alloc)?;
+    let told = tell(alloc, &mut plain, story);
+    drop(plain);
     told
 }
 

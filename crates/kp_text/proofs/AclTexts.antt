@@ -10,8 +10,10 @@ use Rattle.std.proofs.lemmas.Bool.Decides.{nat_tests}
 use Rattle.std.proofs.lemmas.Slice.Eq.{bytes_eq-Decides}
 use Rattle.std.proofs.lemmas.Fmt.{digits_decimal}
 use Rattle.kp_model.specs.declared.node.Acl.{Acl}
-use Rattle.kp_text.specs.Words.{◌>>=◌, int_limit, number_of}
-use Rattle.kp_text.specs.AclWords.{is_colon, behind, cut_at_colon, acl_of, acls_of, acl_list_of, acl_given_by}
+use Rattle.kp_model.specs.Limits.{last_count}
+use Rattle.kp_text.specs.Words.{◌>>=◌, number_of}
+use Rattle.kp_model.specs.Colon.{is_colon}
+use Rattle.kp_text.specs.AclWords.{behind, cut_at_colon, acl_of, acls_of, acl_list_of, acl_given_by}
 use Rattle.kp_text.specs.Spelling.{is_part, is_int, has_no_colon, is_acl, are_acls, are_given_acls, spelled_acl, acl_words, given_words}
 use Rattle.kp_text.proofs.Numerals.{own, left, right}
 use Rattle.kp_text.proofs.Spelled.{both, number_is_spelled, spelled_is_read}
@@ -73,13 +75,13 @@ cut_gives w (Some x) h = sym (ap cut_at_colon h.0 ∙ cut_joined x.0.now x.1.now
 
 -- ---- one line of an access list
 
-int_fits : int_limit < 2 ^ 64
+int_fits : last_count < 2 ^ 64
 int_fits = omega arith
 
-pub int_within : (n : ℕ) → n ≤ int_limit → is_int n ≡ true
+pub int_within : (n : ℕ) → n ≤ last_count → is_int n ≡ true
 int_within n h = grind (arith, nat_tests, h)
 
-pub within_int : (n : ℕ) → is_int n ≡ true → n ≤ int_limit
+pub within_int : (n : ℕ) → is_int n ≡ true → n ≤ last_count
 within_int n h = grind (arith, nat_tests, h)
 
 acl_read : (w : List ℕ) (a : Acl) → is_part w ≡ true → acl_of w ≡ Some a → (w ≡ spelled_acl a) × (is_acl a ≡ true)
@@ -87,10 +89,10 @@ unfolding acl_of
 acl_read w a part e =
     let o = bound (cut_at_colon w) _ a e in
     let i = bound (cut_at_colon o.0.1) _ a o.2 in
-    let n = bound (number_of int_limit o.0.0) _ a i.2 in
+    let n = bound (number_of last_count o.0.0) _ a i.2 in
     let outer = cut_read w o.0 o.1 in
     let inner = cut_read o.0.1 i.0 i.1 in
-    let number = number_is_spelled int_limit n.0 o.0.0 int_fits n.1 in
+    let number = number_is_spelled last_count n.0 o.0.0 int_fits n.1 in
     let whole = part_at 58 (omega arith) o.0.0 o.0.1 (subst (λ x. is_part x ≡ true) outer.0 part) in
     let rest = part_at 58 (omega arith) i.0.0 i.0.1 (subst (λ x. is_part x ≡ true) inner.0 whole.1) in
     subst (λ x. (w ≡ spelled_acl x) × (is_acl x ≡ true)) (got _ a n.2) (
@@ -128,9 +130,9 @@ module _ (a : Acl) (h : is_acl a ≡ true) where
   acl_back : acl_of (spelled_acl a) ≡ Some a
   unfolding acl_of
   acl_back =
-      ap (λ o. o >>= λ outer. cut_at_colon outer.1 >>= λ inner. number_of int_limit outer.0 >>= λ perms. Some (record { perms = perms; scheme = inner.0; id = inner.1 })) cut_spelled
-      ∙ ap (λ o. o >>= λ inner. number_of int_limit (decimal a.perms) >>= λ perms. Some (record { perms = perms; scheme = inner.0; id = inner.1 })) (cut_joined a.scheme a.id (left (has_no_colon a.scheme) (is_part a.scheme) scheme_fits))
-      ∙ ap (λ o. o >>= λ perms. Some (record { perms = perms; scheme = a.scheme; id = a.id })) (spelled_is_read int_limit a.perms (within_int a.perms perms_fit) int_fits)
+      ap (λ o. o >>= λ outer. cut_at_colon outer.1 >>= λ inner. number_of last_count outer.0 >>= λ perms. Some (record { perms = perms; scheme = inner.0; id = inner.1 })) cut_spelled
+      ∙ ap (λ o. o >>= λ inner. number_of last_count (decimal a.perms) >>= λ perms. Some (record { perms = perms; scheme = inner.0; id = inner.1 })) (cut_joined a.scheme a.id (left (has_no_colon a.scheme) (is_part a.scheme) scheme_fits))
+      ∙ ap (λ o. o >>= λ perms. Some (record { perms = perms; scheme = a.scheme; id = a.id })) (spelled_is_read last_count a.perms (within_int a.perms perms_fit) int_fits)
 
   acl_part : is_part (spelled_acl a) ≡ true
   acl_part =

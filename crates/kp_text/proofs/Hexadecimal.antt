@@ -10,7 +10,8 @@ use Rattle.std.proofs.lemmas.Slice.Eq.{bytes_eq-Decides}
 use Rattle.hex.specs.Hex.{IsBytes, decode_of, decode_pairs, digit_or_error, encode_lower, encode_with, hex_digit_value, lower_digits, pair_value, value_at, ◌>>=◌}
 use Rattle.hex.specs.declared.error.FromHexError.{FromHexError}
 use Rattle.hex.proofs.HexLemmas.{decode_of-encode_lower, decode_of-even, decode_of-ok, length-encode_with}
-use Rattle.kp_text.specs.Words.{is_empty, is_lower_hex, hex_of, data_of, of_16, passwd_of}
+use Rattle.kp_model.specs.Path.{is_empty}
+use Rattle.kp_text.specs.Words.{is_lower_hex, hex_of, data_of, of_16, passwd_of}
 use Rattle.kp_text.specs.Spelling.{are_bytes, spelled_data}
 use Rattle.kp_text.proofs.Numerals.{left, right}
 use Rattle.kp_text.proofs.Spelled.{both, chosen}

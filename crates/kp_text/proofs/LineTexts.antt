@@ -7,7 +7,8 @@ use Rattle.std.specs.Fmt.{decimal}
 use Rattle.std.proofs.lemmas.Bool.Decides.{nat_tests}
 use Rattle.hex.specs.Hex.{encode_lower}
 use Rattle.kp_model.specs.Grammar.{is_number, is_timeout}
-use Rattle.kp_text.specs.Words.{◌>>=◌, limit, words_of, number_of, passwd_of}
+use Rattle.kp_model.specs.Limits.{last_number}
+use Rattle.kp_text.specs.Words.{◌>>=◌, words_of, number_of, passwd_of}
 use Rattle.kp_text.specs.Commands.{command_of}
 use Rattle.kp_text.specs.Lines.{one_number, one_path, is_numbered, numbered, numbered_line, is_look, look_at, look_line, bare, at_least, open_line, attach_line, raw_line, write_line, entry_line, of_name, of_words, line_of}
 use Rattle.kp_text.specs.Spelling.{is_part, is_word, are_bytes, is_passwd, is_command, is_line, command_name, command_words, line_words, spelled}
@@ -28,17 +29,17 @@ use lib.Chars.{codes}
 
 -- ---- numbers
 
-number_fits : (n : ℕ) → n ≤ limit → is_number n ≡ true
+number_fits : (n : ℕ) → n ≤ last_number → is_number n ≡ true
 number_fits n h = grind (arith, nat_tests, h)
 
-pub number_small : (n : ℕ) → is_number n ≡ true → n ≤ limit
+pub number_small : (n : ℕ) → is_number n ≡ true → n ≤ last_number
 number_small n h = grind (arith, nat_tests, h)
 
-number_read : (a : List ℕ) (n : ℕ) → number_of limit a ≡ Some n → (a ≡ decimal n) × (is_number n ≡ true)
-number_read a n e = let h = number_is_spelled limit n a (omega arith) e in (h.0, number_fits n h.1)
+number_read : (a : List ℕ) (n : ℕ) → number_of last_number a ≡ Some n → (a ≡ decimal n) × (is_number n ≡ true)
+number_read a n e = let h = number_is_spelled last_number n a (omega arith) e in (h.0, number_fits n h.1)
 
-number_back : (n : ℕ) → is_number n ≡ true → number_of limit (decimal n) ≡ Some n
-number_back n h = spelled_is_read limit n (number_small n h) (omega arith)
+number_back : (n : ℕ) → is_number n ≡ true → number_of last_number (decimal n) ≡ Some n
+number_back n h = spelled_is_read last_number n (number_small n h) (omega arith)
 
 number_part : (n : ℕ) → is_number n ≡ true → is_part (decimal n) ≡ true
 number_part n h = decimal_part n (let small = number_small n h in omega (arith, small))
@@ -153,7 +154,7 @@ unfolding attach_line
 attach_read [] l e = absurd (cc)
 attach_read (a ∷ []) l e = absurd (cc)
 attach_read (a ∷ b ∷ []) l e =
-    let p = bound (number_of limit a) _ l e in
+    let p = bound (number_of last_number a) _ l e in
     let n = number_read a p.0 p.1 in
     let r = bound (passwd_of b) _ l p.2 in
     let w = passwd_is_spelled b r.0 r.1 in
@@ -168,9 +169,9 @@ raw_read (a ∷ []) l p e = absurd (cc)
 raw_read (a ∷ b ∷ []) l p e = absurd (cc)
 raw_read (a ∷ b ∷ c ∷ []) l p e = absurd (cc)
 raw_read (a ∷ b ∷ c ∷ name ∷ ws) l p e =
-    let p1 = bound (number_of limit a) _ l e in
-    let p2 = bound (number_of limit b) _ l p1.2 in
-    let p3 = bound (number_of limit c) _ l p2.2 in
+    let p1 = bound (number_of last_number a) _ l e in
+    let p2 = bound (number_of last_number b) _ l p1.2 in
+    let p3 = bound (number_of last_number c) _ l p2.2 in
     let p4 = bound (command_of name ws) _ l p3.2 in
     let session = number_read a p1.0 p1.1 in
     let epoch = number_read b p2.0 p2.1 in
@@ -191,7 +192,7 @@ write_read : (name : List ℕ) (ws : List (List ℕ)) (l : StoreLine) → list_a
 unfolding write_line
 write_read name [] l p e = absurd (cc)
 write_read name (a ∷ ws) l p e =
-    let p1 = bound (number_of limit a) _ l e in
+    let p1 = bound (number_of last_number a) _ l e in
     let p2 = bound (command_of name ws) _ l p1.2 in
     let session = number_read a p1.0 p1.1 in
     let cmd = command_read name ws p2.0 (tail_parts a ws p) p2.1 in
@@ -247,8 +248,8 @@ raw_back : (s e q : ℕ) (c : Command) → is_number s ≡ true → is_number e 
     → raw_line (decimal s ∷ decimal e ∷ decimal q ∷ command_name c ∷ command_words c) ≡ Some (Raw s e q c)
 unfolding raw_line
 raw_back s e q c hs he hq hc =
-    ap (λ o. o >>= λ n. number_of limit (decimal e) >>= λ m. number_of limit (decimal q) >>= λ k. command_of (command_name c) (command_words c) >>= λ d. Some (Raw n m k d)) (number_back s hs)
-    ∙ ap (λ o. o >>= λ m. number_of limit (decimal q) >>= λ k. command_of (command_name c) (command_words c) >>= λ d. Some (Raw s m k d)) (number_back e he)
+    ap (λ o. o >>= λ n. number_of last_number (decimal e) >>= λ m. number_of last_number (decimal q) >>= λ k. command_of (command_name c) (command_words c) >>= λ d. Some (Raw n m k d)) (number_back s hs)
+    ∙ ap (λ o. o >>= λ m. number_of last_number (decimal q) >>= λ k. command_of (command_name c) (command_words c) >>= λ d. Some (Raw s m k d)) (number_back e he)
     ∙ ap (λ o. o >>= λ k. command_of (command_name c) (command_words c) >>= λ d. Some (Raw s e k d)) (number_back q hq)
     ∙ ap (λ o. o >>= λ d. Some (Raw s e q d)) (command_back c hc)
 

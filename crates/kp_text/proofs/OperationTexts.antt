@@ -2,7 +2,9 @@
 use Rattle.std.proofs.Common.{◌≡◌, ℕ, true, not, ◌&&◌, inl, inr, List, [], ◌∷◌, Some, arith, refl, ap, subst, ◌∙◌}
 use Rattle.std.specs.List.{list_all}
 use Rattle.std.specs.Fmt.{decimal}
-use Rattle.kp_text.specs.Words.{◌>>=◌, is_empty, int_limit, number_of, version_of, data_of, path_of}
+use Rattle.kp_model.specs.Limits.{last_count}
+use Rattle.kp_model.specs.Path.{is_empty}
+use Rattle.kp_text.specs.Words.{◌>>=◌, number_of, version_of, data_of, path_of}
 use Rattle.kp_text.specs.AclWords.{acl_given_by}
 use Rattle.kp_text.specs.Commands.{create_of, delete_of, set_of, check_of, operation_of}
 use Rattle.kp_text.specs.Spelling.{is_part, is_word, is_int, are_bytes, is_asked, are_given_acls, is_operation, spelled_data, spelled_version, given_words, operation_name, operation_words}
@@ -30,11 +32,11 @@ path_is_read (b ∷ p) h = refl
 pub path_part : (p : List ℕ) → is_word p ≡ true → is_part p ≡ true
 path_part p h = right (not (is_empty p)) (is_part p) h
 
-int_is_spelled : (a : List ℕ) (n : ℕ) → number_of int_limit a ≡ Some n → (a ≡ decimal n) × (is_int n ≡ true)
-int_is_spelled a n e = let h = number_is_spelled int_limit n a (omega arith) e in (h.0, int_within n h.1)
+int_is_spelled : (a : List ℕ) (n : ℕ) → number_of last_count a ≡ Some n → (a ≡ decimal n) × (is_int n ≡ true)
+int_is_spelled a n e = let h = number_is_spelled last_count n a (omega arith) e in (h.0, int_within n h.1)
 
-int_is_read : (n : ℕ) → is_int n ≡ true → number_of int_limit (decimal n) ≡ Some n
-int_is_read n h = spelled_is_read int_limit n (within_int n h) (omega arith)
+int_is_read : (n : ℕ) → is_int n ≡ true → number_of last_count (decimal n) ≡ Some n
+int_is_read n h = spelled_is_read last_count n (within_int n h) (omega arith)
 
 int_part : (n : ℕ) → is_int n ≡ true → is_part (decimal n) ≡ true
 int_part n h = let le = within_int n h in decimal_part n (omega (arith, le))
@@ -64,7 +66,7 @@ create_read (a ∷ []) o p e = absurd (cc)
 create_read (a ∷ b ∷ []) o p e = absurd (cc)
 create_read (a ∷ b ∷ c ∷ ws) o p e =
     let p1 = bound (path_of a) _ o e in
-    let p2 = bound (number_of int_limit b) _ o p1.2 in
+    let p2 = bound (number_of last_count b) _ o p1.2 in
     let p3 = bound (data_of c) _ o p2.2 in
     let p4 = bound (acl_given_by ws) _ o p3.2 in
     let path = path_is_spelled a p1.0 (head_part a (b ∷ c ∷ ws) p) p1.1 in
@@ -143,7 +145,7 @@ unfolding operation_of create_of delete_of set_of check_of
 operation_back (op.Create path flags bytes acl) h =
     let h1 = right (is_word path) (is_int flags && (are_bytes bytes && are_given_acls acl)) h in
     let h2 = right (is_int flags) (are_bytes bytes && are_given_acls acl) h1 in
-    ap (λ o. o >>= λ p. number_of int_limit (decimal flags) >>= λ f. data_of (spelled_data bytes) >>= λ d. acl_given_by (given_words acl) >>= λ a. Some (op.Create p f d a)) (path_is_read path (left (is_word path) (is_int flags && (are_bytes bytes && are_given_acls acl)) h))
+    ap (λ o. o >>= λ p. number_of last_count (decimal flags) >>= λ f. data_of (spelled_data bytes) >>= λ d. acl_given_by (given_words acl) >>= λ a. Some (op.Create p f d a)) (path_is_read path (left (is_word path) (is_int flags && (are_bytes bytes && are_given_acls acl)) h))
     ∙ ap (λ o. o >>= λ f. data_of (spelled_data bytes) >>= λ d. acl_given_by (given_words acl) >>= λ a. Some (op.Create path f d a)) (int_is_read flags (left (is_int flags) (are_bytes bytes && are_given_acls acl) h1))
     ∙ ap (λ o. o >>= λ d. acl_given_by (given_words acl) >>= λ a. Some (op.Create path flags d a)) (data_is_read bytes (left (are_bytes bytes) (are_given_acls acl) h2))
     ∙ ap (λ o. o >>= λ a. Some (op.Create path flags bytes a)) (given_back acl (right (are_bytes bytes) (are_given_acls acl) h2))

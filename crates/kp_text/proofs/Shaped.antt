@@ -6,7 +6,8 @@ use Rattle.std.specs.Fmt.{decimal}
 use Rattle.hex.specs.Hex.{encode_with, encode_lower}
 use Rattle.kp_model.specs.declared.node.Acl.{Acl as AclLine}
 use Rattle.kp_model.specs.Grammar.{is_number, is_timeout}
-use Rattle.kp_text.specs.Words.{is_empty, words_of, any_version}
+use Rattle.kp_model.specs.Path.{is_empty}
+use Rattle.kp_text.specs.Words.{words_of, any_version}
 use Rattle.kp_text.specs.Lines.{line_of, of_words}
 use Rattle.kp_text.specs.Shape.{are_written, are_few, have_list, may_be_line}
 use Rattle.kp_text.specs.Spelling.{is_part, is_word, is_int, are_bytes, is_passwd, is_asked, are_acls, are_given_acls, is_operation, is_nested, is_command, is_line, spelled_data, spelled_version, spelled_acl, acl_words, given_words, operation_name, operation_words, operation_line, separated, command_name, command_words, line_words}

@@ -6,7 +6,8 @@ use Rattle.std.specs.Str.Parse.{digits_value}
 use Rattle.std.proofs.lemmas.Fmt.{decimal-digits_value, digits_decimal, digits_value-decimal, decimal_nonempty, first_decimal, decimal_digit}
 use Rattle.std.proofs.lemmas.Bool.{cases_lt}
 use Rattle.std.proofs.lemmas.Bool.Decides.{nat_tests}
-use Rattle.kp_text.specs.Words.{is_empty, is_numeral, number_of}
+use Rattle.kp_model.specs.Path.{is_empty}
+use Rattle.kp_text.specs.Words.{is_numeral, number_of}
 use Rattle.kp_text.proofs.Numerals.{own, left, right, some}
 
 -- what is read is within the limit and spelled so

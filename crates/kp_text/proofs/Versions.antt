@@ -8,7 +8,8 @@ use Rattle.std.specs.Char.{is_ascii_digit}
 use Rattle.std.proofs.lemmas.Fmt.{digits_decimal}
 use Rattle.std.proofs.lemmas.Bool.Decides.{nat_tests}
 use Rattle.std.proofs.lemmas.Slice.Eq.{bytes_eq-Decides}
-use Rattle.kp_text.specs.Words.{number_of, version_of, int_limit, any_version}
+use Rattle.kp_model.specs.Limits.{last_count}
+use Rattle.kp_text.specs.Words.{number_of, version_of, any_version}
 use Rattle.kp_text.specs.Spelling.{is_asked, spelled_version}
 use Rattle.kp_text.proofs.Numerals.{own}
 use Rattle.kp_text.proofs.Spelled.{number_is_spelled, spelled_is_read}
@@ -17,21 +18,21 @@ use Rattle.kp_text.proofs.Visible.{visible_part, decimal_part}
 use lib.Chars.{codes}
 
 -- a version within its limit is spelled as a number
-within_spelled : (v : ℕ) → v ≤ int_limit → spelled_version v ≡ decimal v
+within_spelled : (v : ℕ) → v ≤ last_count → spelled_version v ≡ decimal v
 within_spelled v le = let other : (v == any_version) ≡ false = grind (arith, nat_tests, le) in ap (λ b. cond b (codes "-1") (decimal v)) other
 
-within_asked : (v : ℕ) → v ≤ int_limit → is_asked v ≡ true
-within_asked v le = let small : nat_le v int_limit ≡ true = grind (arith, nat_tests, le) in ap (λ b. b || v == any_version) small
+within_asked : (v : ℕ) → v ≤ last_count → is_asked v ≡ true
+within_asked v le = let small : nat_le v last_count ≡ true = grind (arith, nat_tests, le) in ap (λ b. b || v == any_version) small
 
 asked_any : is_asked any_version ≡ true
 asked_any = refl
 
-version_case : (w : List ℕ) (v : ℕ) (b : Bool) → bytes_eq w (codes "-1") ≡ b → cond b (Some any_version) (number_of int_limit w) ≡ Some v → (w ≡ spelled_version v) × (is_asked v ≡ true)
+version_case : (w : List ℕ) (v : ℕ) (b : Bool) → bytes_eq w (codes "-1") ≡ b → cond b (Some any_version) (number_of last_count w) ≡ Some v → (w ≡ spelled_version v) × (is_asked v ≡ true)
 version_case w v true t e =
     let any : any_version ≡ v = cc in
     (subst (λ k. w ≡ spelled_version k) any ((bytes_eq-Decides w (codes "-1")).0 t), subst (λ k. is_asked k ≡ true) any asked_any)
 version_case w v false t e =
-    let n = number_is_spelled int_limit v w (omega arith) e in
+    let n = number_is_spelled last_count v w (omega arith) e in
     (n.0 ∙ sym (within_spelled v n.1), within_asked v n.1)
 
 pub version_is_spelled : (w : List ℕ) (v : ℕ) → version_of w ≡ Some v → (w ≡ spelled_version v) × (is_asked v ≡ true)
@@ -39,24 +40,24 @@ unfolding version_of
 version_is_spelled w v e = version_case w v (bytes_eq w (codes "-1")) refl e
 
 -- no number is spelled with a sign
-unsigned : (n : ℕ) (b : Bool) → n ≤ int_limit → bytes_eq (decimal n) (codes "-1") ≡ b → b ≡ false
+unsigned : (n : ℕ) (b : Bool) → n ≤ last_count → bytes_eq (decimal n) (codes "-1") ≡ b → b ≡ false
 unsigned n true le t =
     let same = (bytes_eq-Decides (decimal n) (codes "-1")).0 t in
     let digits : list_all is_ascii_digit (codes "-1") ≡ true = subst (λ w. list_all is_ascii_digit w ≡ true) same (digits_decimal own n (omega (arith, le))) in
     absurd (cc)
 unsigned n false le t = refl
 
-number_version : (n : ℕ) → n ≤ int_limit → version_of (decimal n) ≡ Some n
+number_version : (n : ℕ) → n ≤ last_count → version_of (decimal n) ≡ Some n
 unfolding version_of
 number_version n le =
-    ap (λ b. cond b (Some any_version) (number_of int_limit (decimal n))) (unsigned n (bytes_eq (decimal n) (codes "-1")) le refl)
-    ∙ spelled_is_read int_limit n le (omega arith)
+    ap (λ b. cond b (Some any_version) (number_of last_count (decimal n))) (unsigned n (bytes_eq (decimal n) (codes "-1")) le refl)
+    ∙ spelled_is_read last_count n le (omega arith)
 
 any_is_read : version_of (codes "-1") ≡ Some any_version
 unfolding version_of
 any_is_read = refl
 
-pub within : (v : ℕ) → is_asked v ≡ true → (v == any_version) ≡ false → v ≤ int_limit
+pub within : (v : ℕ) → is_asked v ≡ true → (v == any_version) ≡ false → v ≤ last_count
 within v h other = grind (arith, nat_tests, h, other)
 
 read_case : (v : ℕ) (b : Bool) → is_asked v ≡ true → (v == any_version) ≡ b → version_of (cond b (codes "-1") (decimal v)) ≡ Some v

@@ -2,11 +2,10 @@
 use Rattle.std.specs.Prelude.{ℕ, Bool, ◌==◌, List, [], ◌∷◌, Option, Some, None, if◌then◌else◌}
 use Rattle.std.specs.Str.{bytes_eq}
 use Rattle.kp_model.specs.declared.node.Acl.{Acl}
-use Rattle.kp_text.specs.Words.{◌>>=◌, int_limit, number_of}
+use Rattle.kp_model.specs.Limits.{last_count}
+use Rattle.kp_text.specs.Words.{◌>>=◌, number_of}
+use Rattle.kp_model.specs.Colon.{is_colon}
 use lib.Chars.{codes}
-
-abbrev pub is_colon : ℕ → Bool
-is_colon b = b == 58
 
 -- a byte before what was cut
 abbrev pub behind : ℕ → Option (List ℕ × List ℕ) → Option (List ℕ × List ℕ)
@@ -23,7 +22,7 @@ unfoldable pub acl_of : List ℕ → Option Acl
 acl_of word = do
   outer ← cut_at_colon word
   inner ← cut_at_colon outer.1
-  perms ← number_of int_limit outer.0
+  perms ← number_of last_count outer.0
   Some (record { perms = perms; scheme = inner.0; id = inner.1 })
 
 unfoldable pub acls_of : List (List ℕ) → Option (List Acl)

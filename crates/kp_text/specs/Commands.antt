@@ -2,7 +2,8 @@
 use Rattle.std.specs.Prelude.{ℕ, Bool, List, [], ◌∷◌, Option, Some, None, if◌then◌else◌}
 use Rattle.std.specs.List.{slice_split}
 use Rattle.std.specs.Str.{bytes_eq}
-use Rattle.kp_text.specs.Words.{◌>>=◌, int_limit, number_of, version_of, data_of, path_of}
+use Rattle.kp_model.specs.Limits.{last_count}
+use Rattle.kp_text.specs.Words.{◌>>=◌, number_of, version_of, data_of, path_of}
 use Rattle.kp_text.specs.AclWords.{acl_list_of, acl_given_by}
 use Rattle.kp_text.specs.declared.command.Operation.{Operation}
 use Rattle.kp_text.specs.declared.command.Operation.TheVariants as op
@@ -14,7 +15,7 @@ use lib.Chars.{codes}
 unfoldable pub create_of : List (List ℕ) → Option Operation
 create_of (a ∷ b ∷ c ∷ ws) = do
   path ← path_of a
-  flags ← number_of int_limit b
+  flags ← number_of last_count b
   bytes ← data_of c
   acl ← acl_given_by ws
   Some (op.Create path flags bytes acl)

@@ -1,7 +1,8 @@
 -- The lines of the store language, as a function that reads them.
 use Rattle.std.specs.Prelude.{ℕ, Bool, ◌||◌, nat_le, List, [], ◌∷◌, Option, Some, None, if◌then◌else◌}
 use Rattle.std.specs.Str.{bytes_eq, is_utf8}
-use Rattle.kp_text.specs.Words.{◌>>=◌, limit, words_of, number_of, passwd_of, path_of}
+use Rattle.kp_model.specs.Limits.{last_number}
+use Rattle.kp_text.specs.Words.{◌>>=◌, words_of, number_of, passwd_of, path_of}
 use Rattle.kp_text.specs.Commands.{command_of}
 use Rattle.kp_text.specs.declared.line.StoreLine.{StoreLine}
 use Rattle.kp_text.specs.declared.line.StoreLine.TheVariants.{Time, Open, Attach, Expire, Noop, Write, Raw, Commit, Truncate, Peek, See, Kids, Ls, Acl, Who}
@@ -9,7 +10,7 @@ use lib.Chars.{codes}
 
 -- one number, and no other word
 abbrev pub one_number : List (List ℕ) → Option ℕ
-one_number (a ∷ []) = number_of limit a
+one_number (a ∷ []) = number_of last_number a
 one_number _ = None
 
 -- one path, and no other word
@@ -65,7 +66,7 @@ open_line _ = None
 -- `attach S PASS`
 unfoldable pub attach_line : List (List ℕ) → Option StoreLine
 attach_line (a ∷ b ∷ []) = do
-  session ← number_of limit a
+  session ← number_of last_number a
   passwd ← passwd_of b
   Some (Attach session passwd)
 attach_line _ = None
@@ -73,9 +74,9 @@ attach_line _ = None
 -- `raw S EPOCH SEQ CMD`
 unfoldable pub raw_line : List (List ℕ) → Option StoreLine
 raw_line (a ∷ b ∷ c ∷ name ∷ ws) = do
-  session ← number_of limit a
-  epoch ← number_of limit b
-  seq ← number_of limit c
+  session ← number_of last_number a
+  epoch ← number_of last_number b
+  seq ← number_of last_number c
   command ← command_of name ws
   Some (Raw session epoch seq command)
 raw_line _ = None
@@ -83,7 +84,7 @@ raw_line _ = None
 -- a command, whose first word behind its name is the session
 unfoldable pub write_line : List ℕ → List (List ℕ) → Option StoreLine
 write_line name (a ∷ ws) = do
-  session ← number_of limit a
+  session ← number_of last_number a
   command ← command_of name ws
   Some (Write session command)
 write_line name [] = None

@@ -2,7 +2,7 @@
 use Rattle.std.specs.Prelude.{ℕ, Bool, false, not, ◌&&◌, ◌||◌, List, Option, Some, None, slice_get, is_none, if◌then◌else◌}
 use Rattle.std.specs.List.{list_all}
 use Rattle.std.specs.Str.{bytes_eq}
-use Rattle.kp_text.specs.Words.{is_empty}
+use Rattle.kp_model.specs.Path.{is_empty}
 use lib.Chars.{codes}
 
 -- no word is empty

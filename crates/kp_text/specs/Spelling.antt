@@ -6,8 +6,10 @@ use Rattle.std.specs.Fmt.{decimal}
 use Rattle.hex.specs.Hex.{encode_lower}
 use Rattle.kp_model.specs.declared.node.Acl.{Acl as AclLine}
 use Rattle.kp_model.specs.Grammar.{is_number, is_timeout}
-use Rattle.kp_text.specs.Words.{is_empty, is_space, int_limit, any_version}
-use Rattle.kp_text.specs.AclWords.{is_colon}
+use Rattle.kp_model.specs.Limits.{last_count}
+use Rattle.kp_model.specs.Path.{is_empty}
+use Rattle.kp_text.specs.Words.{is_space, any_version}
+use Rattle.kp_model.specs.Colon.{is_colon}
 use Rattle.kp_text.specs.Commands.{is_separator}
 use Rattle.kp_text.specs.declared.command.Operation.{Operation}
 use Rattle.kp_text.specs.declared.command.Operation.TheVariants as op
@@ -39,7 +41,7 @@ is_passwd bytes = are_bytes bytes && length bytes == 16
 
 -- flags or rights
 abbrev pub is_int : ℕ → Bool
-is_int n = nat_le n int_limit
+is_int n = nat_le n last_count
 
 -- a version within its limit, or the one that matches any
 abbrev pub is_asked : ℕ → Bool

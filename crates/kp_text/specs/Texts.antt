@@ -9,7 +9,7 @@ use Rattle.kp_model.specs.declared.reply.OpReply.TheVariants as opreply
 use Rattle.kp_model.specs.declared.reply.Reply.{Reply}
 use Rattle.kp_model.specs.declared.reply.Reply.TheVariants as reply
 use Rattle.kp_model.specs.declared.session.Session.{Session}
-use Rattle.kp_text.specs.Words.{is_empty}
+use Rattle.kp_model.specs.Path.{is_empty}
 use Rattle.kp_text.specs.Spelling.{spelled_acl}
 use lib.Chars.{codes}
 

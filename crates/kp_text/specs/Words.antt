@@ -6,11 +6,9 @@ use Rattle.std.specs.Str.{bytes_eq}
 use Rattle.std.specs.Str.Parse.{digits_value}
 use Rattle.std.specs.Char.{is_ascii_digit}
 use Rattle.hex.specs.Hex.{decode_of}
+use Rattle.kp_model.specs.Limits.{last_count}
+use Rattle.kp_model.specs.Path.{is_empty}
 use lib.Chars.{codes}
-
-abbrev pub is_empty : List ℕ → Bool
-is_empty [] = true
-is_empty (b ∷ bs) = false
 
 abbrev pub is_space : ℕ → Bool
 is_space b = b == 32
@@ -23,14 +21,6 @@ infixl 10 ◌>>=◌
 abbrev pub ◌>>=◌ : {A B : Type 0} → Option A → (A → Option B) → Option B
 None >>= f = None
 (Some x) >>= f = f x
-
--- the greatest time, index, session, epoch or running number: 2 ^ 62
-abbrev pub limit : ℕ
-limit = 4611686018427387904
-
--- the greatest version, flags and rights: 2 ^ 31 - 1
-abbrev pub int_limit : ℕ
-int_limit = 2147483647
 
 -- decimal digits, one at least, and no zero before others
 abbrev pub is_numeral : List ℕ → Bool
@@ -67,7 +57,7 @@ any_version = 4294967295
 
 -- the version that a word is: a number, or `-1` for any
 unfoldable pub version_of : List ℕ → Option ℕ
-version_of word = if bytes_eq word (codes "-1") then Some any_version else number_of int_limit word
+version_of word = if bytes_eq word (codes "-1") then Some any_version else number_of last_count word
 
 -- a path is any word; a word has one character at least
 abbrev pub path_of : List ℕ → Option (List ℕ)

@@ -1,7 +1,7 @@
 -- How the input falls into lines.
 use Rattle.std.specs.Prelude.{ℕ, Bool, ◌==◌, List, [], ◌∷◌, if◌then◌else◌}
 use Rattle.std.specs.List.{slice_split}
-use Rattle.kp_text.specs.Words.{is_empty}
+use Rattle.kp_model.specs.Path.{is_empty}
 
 abbrev pub is_feed : ℕ → Bool
 is_feed b = b == 10

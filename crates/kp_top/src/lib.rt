@@ -4,6 +4,7 @@
 mod command;
 mod input_lines;
 mod line_commands;
+mod looking;
 mod print;
 mod status;
 mod store;

@@ -1,21 +1,17 @@
-ghost use Rattle.std.specs.Prelude.{◌≡◌, ◌<◌, ◌≤◌, ◌&&◌, IfOk, IsTrue, codes};
+ghost use Rattle.std.specs.Prelude.{◌≡◌, ◌<◌, ◌≤◌, ◌&&◌, IfOk, IsTrue};
 ghost use Rattle.std.specs.FinMap as map;
 ghost use Rattle.kp_model.specs.Grammar.{is_body, has_numbers, is_number};
-ghost use Rattle.kp_model.specs.State.{seen, acl_at};
 ghost use Rattle.kp_model.specs.Store.{last as last_of, latest};
 ghost use Rattle.kp_model.specs.declared.entry.Body.TheVariants as body;
 ghost use Rattle.kp_text.specs.Spelling.{is_line};
-ghost use Rattle.kp_top.specs.Texts.{seen_text as seen_bytes, kids_text as kids_bytes, acl_text as acl_bytes, who_text as who_bytes};
-ghost use Rattle.kp_top.specs.Transcript.{blank, turn as turn_of, entered, committed, cut as cut_of, write_of, epoch_of, next_seq_of, origin_of as origin_at, kids_at};
+ghost use Rattle.kp_top.specs.Transcript.{blank, turn as turn_of, entered, committed, cut as cut_of, write_of, epoch_of, next_seq_of, origin_of as origin_at};
 ghost use Rattle.kp_top.specs.LineCommands.{cmd_of as asks};
 ghost use Rattle.kp_top.specs.Paced.{IsPaced};
 
 use crate::line_commands::cmd_of;
-use crate::print::{
-    acl_text, cut_text, done_text, kids_text, no_kids_text, pre_text, seen_text, text_of,
-    time_text, who_text,
-};
-use kp_model::{Body, Cmd, Entry, NoMemory, Origin, Text, View};
+use crate::looking::{acl, children, peek, see, who};
+use crate::print::{cut_text, done_text, pre_text, text_of, time_text};
+use kp_model::{Body, Cmd, Entry, NoMemory, Origin};
 use kp_storage::Storage;
 use kp_text::{Command, StoreLine};
 use std::alloc::Global;
@@ -160,58 +156,6 @@ fn truncate(alloc: Global, store: &mut Storage, time: u64, last: u64) -> Result<
         return cut_text(alloc, last);
     }
     text_of(alloc, "cut refused")
-}
-
-/// What is seen of a node of the uncommitted state.
-#[tactic(auto, using(crate::proofs::Looks::shown_seen))]
-pub fn peek(alloc: Global, store: &Storage, path: &Text) -> Result<Vec<u8>, NoMemory>
-    ensures { IfOk result (λ v. v.items ≡ seen_bytes (codes "peek") (seen (latest store.now).nodes path.now)) }
-{
-    let path = path.as_str();
-    let (data, meta) = (store.latest_data(path), store.latest_meta(path));
-    seen_text(alloc, "peek", data, meta)
-}
-
-/// What is seen of a node of the committed state.
-#[tactic(auto, using(crate::proofs::Looks::shown_seen))]
-pub fn see(alloc: Global, store: &Storage, path: &Text) -> Result<Vec<u8>, NoMemory>
-    ensures { IfOk result (λ v. v.items ≡ seen_bytes (codes "see") (seen store.now.state.nodes path.now)) }
-{
-    let path = path.as_str();
-    let (data, meta) = (store.committed_data(path), store.committed_meta(path));
-    seen_text(alloc, "see", data, meta)
-}
-
-/// The names of the children of a node of this state, behind the word that asked for them.
-#[tactic(auto, using(crate::proofs::Looks::kids_there, crate::proofs::Looks::kids_nowhere))]
-pub fn children<V: View>(
-    alloc: Global,
-    word: &str,
-    view: &V,
-    path: &Text,
-) -> Result<Vec<u8>, NoMemory>
-    ensures { IfOk result (λ v. v.items ≡ kids_bytes word.now (kids_at (V.state view.now).nodes path.now)) }
-{
-    let path = path.as_str();
-    if view.meta(path).is_none() {
-        return no_kids_text(alloc, word);
-    }
-    let names = view.kids(alloc, path)?;
-    kids_text(alloc, word, &names)
-}
-
-/// The access list of a node of the uncommitted state.
-fn acl(alloc: Global, store: &Storage, path: &Text) -> Result<Vec<u8>, NoMemory>
-    ensures { IfOk result (λ v. v.items ≡ acl_bytes (acl_at (latest store.now).nodes path.now)) }
-{
-    acl_text(alloc, store.latest().acl(path.as_str()))
-}
-
-/// A session of the uncommitted state.
-fn who(alloc: Global, store: &Storage, session: u64) -> Result<Vec<u8>, NoMemory>
-    ensures { IfOk result (λ v. v.items ≡ who_bytes (map.get (latest store.now).sessions session)) }
-{
-    who_text(alloc, store.latest_session(session))
 }
 
 /// The origin of a session that the n-th line opens or takes over.

@@ -1,7 +1,8 @@
 use Rattle.std.proofs.Common.{lit<, not, rules, tests}
 use Rattle.std.proofs.lemmas.Iterator.Search.{all_from_yields_List}
 use Rattle.std.proofs.lemmas.Iterator.Splits.{YieldsList-from_str_split}
-use Rattle.kp_text.specs.Words.{is_empty, words_of}
+use Rattle.kp_model.specs.Path.{is_empty}
+use Rattle.kp_text.specs.Words.{words_of}
 use Rattle.kp_text.proofs.shape.has_no_empty_word.Goals as goal
 
 pub returns : goal.returns

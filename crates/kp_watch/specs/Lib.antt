@@ -1,0 +1,5 @@
+pub mod Watching
+pub mod Spots
+pub mod Owners
+pub mod Numbered
+pub mod Indexed

@@ -1,10 +1,12 @@
 -- The spots after a watch more or less.
-use Rattle.std.proofs.Common.{◌≡◌, ℕ, Bool, true, false, cond, nat_eq, ◌&&◌, List, Option, Some, None, refl, ap, sym, ◌∙◌}
+use Rattle.std.proofs.Common.{◌≡◌, ℕ, Bool, true, false, cond, nat_eq, ◌&&◌, List, [], ◌∷◌, Option, Some, None, refl, ap, sym, ◌∙◌}
 use Rattle.std.specs.Prelude.{String}
 use Rattle.std.specs.Str.{bytes_eq}
 use Rattle.std.proofs.lemmas.Slice.Eq.{bytes_eq-Decides}
 use Rattle.indexmap.specs.IndexMap.{IndexMap}
-use Rattle.kp_watch.specs.Spots.{number_in, spot_at, number_at}
+use Rattle.kp_watch.specs.Spots.{Pairs, AreApart, number_in, spot_at, number_at}
+use Rattle.std.specs.List.{IsDistinct}
+use Rattle.std.proofs.lemmas.Bool.{false≢true}
 
 module _ {Z S : Type 0} (old new : List (String Z × IndexMap ℕ ℕ S)) (path : List ℕ) (w : Option (IndexMap ℕ ℕ S)) (spots : (p : List ℕ) → spot_at new p ≡ cond (bytes_eq path p) w (spot_at old p)) where
   -- one number of the path is another
@@ -35,3 +37,15 @@ number_and_spot old mid new path conn taken none gone p c = gone p c ∙ here (b
   here : (b : Bool) → (b ≡ true → path ≡ p) → number_at mid p c ≡ cond (b && nat_eq conn c) None (number_at old p c) → cond b None (number_at mid p c) ≡ cond (b && nat_eq conn c) None (number_at old p c)
   here true same h = sym (sym h ∙ ap (λ q. number_at mid q c) (sym (same refl)) ∙ none c)
   here false same h = h
+
+-- no connections
+pub none_apart : (ps : Pairs) → ps ≡ [] → AreApart ps
+unfolding IsDistinct
+none_apart [] h = tt
+none_apart (e ∷ es) h = absurd (T-of (ap is_none h)) where
+  is_none : Pairs → Bool
+  is_none [] = true
+  is_none (x ∷ xs) = false
+
+  T-of : false ≡ true → ⊥
+  T-of e = false≢true e

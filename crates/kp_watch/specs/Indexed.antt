@@ -1,7 +1,5 @@
 -- What the indexes of the watches say of them.
 use Rattle.std.specs.Prelude.{◌≡◌, ℕ, ◌<◌, Bool, false, List, Option, Some, None, map, nat_eq}
-use Rattle.std.specs.List.Sorted.{IsStrictlySortedBy}
-use Rattle.std.specs.Ordering.{nat_cmp}
 use Rattle.std.specs.BTreeSet.{BTreeSet}
 use Rattle.kp_watch.specs.declared.watch.Watch.{Watch}
 use Rattle.kp_watch.specs.declared.kind.Kind.{Kind}
@@ -9,7 +7,7 @@ use Rattle.kp_watch.specs.declared.sides.Sides.{Sides}
 use Rattle.kp_watch.specs.Watching.{same_watch, is_of}
 use Rattle.kp_watch.specs.Spots.{number_of}
 use Rattle.kp_watch.specs.Owners.{is_own}
-use Rattle.kp_watch.specs.Numbered.{Numbered, watch_at}
+use Rattle.kp_watch.specs.Numbered.{Numbered, watch_at, AreOrdered}
 
 -- whether the number that may be there is this one
 abbrev pub is_number : Option ℕ → ℕ → Bool
@@ -29,9 +27,12 @@ AreBeside sides look = (k : Kind) (p : List ℕ) (c n : ℕ) → is_number (numb
 abbrev pub AreOwned : List (ℕ × BTreeSet ℕ) → (ℕ → Option Watch) → Type 0
 AreOwned own look = (c n : ℕ) → is_own own c n ≡ passes (is_of c) (look n)
 
--- the numbers rise and are below next, and the indexes say what the watches are
-pub record AreIndexed (next : ℕ) (es : Numbered) (sides : Sides) (own : List (ℕ × BTreeSet ℕ)) : Type 0 where
-  pub ordered : IsStrictlySortedBy nat_cmp (map (λ (e : ℕ × Watch). e.0) es)
-  pub below : (n : ℕ) (w : Watch) → watch_at es n ≡ Some w → n < next
+-- the numbers rise, and the indexes say what the watches are
+pub record AreIndexed (es : Numbered) (sides : Sides) (own : List (ℕ × BTreeSet ℕ)) : Type 0 where
+  pub ordered : AreOrdered es
   pub beside : AreBeside sides (watch_at es)
   pub owned : AreOwned own (watch_at es)
+
+-- the numbers are below next
+abbrev pub AreBelow : ℕ → Numbered → Type 0
+AreBelow next es = (n : ℕ) (w : Watch) → watch_at es n ≡ Some w → n < next

@@ -1,6 +1,7 @@
 -- Watches under running numbers.
-use Rattle.std.specs.Prelude.{ℕ, Bool, List, Option, map, nat_eq, not}
-use Rattle.std.specs.List.{filter}
+use Rattle.std.specs.Prelude.{◌≡◌, ℕ, Bool, List, [], ◌∷◌, Option, Some, None, map, nat_eq}
+use Rattle.std.specs.List.{filter, list_any}
+use Rattle.std.specs.List.Sorted.{IsStrictlySortedBy}
 use Rattle.std.specs.Map.{lookup}
 use Rattle.std.specs.BTreeMap.{is_at}
 use Rattle.std.specs.Ordering.{nat_cmp}
@@ -21,3 +22,21 @@ numbers p es = map (λ (e : ℕ × Watch). e.0) (filter (λ (e : ℕ × Watch). 
 -- the watch of a number
 abbrev pub watch_at : Numbered → ℕ → Option Watch
 watch_at es n = lookup (is_at (nat_cmp n)) es
+
+-- the numbers rise
+abbrev pub AreOrdered : Numbered → Type 0
+AreOrdered es = IsStrictlySortedBy nat_cmp (map (λ (e : ℕ × Watch). e.0) es)
+
+-- the connection of the watch, if there is one
+abbrev pub conn_in : Option Watch → List ℕ
+conn_in None = []
+conn_in (Some w) = w.conn ∷ []
+
+-- the connection of the number's watch, if there is one
+unfoldable pub conn_at : (ℕ → Option Watch) → ℕ → List ℕ
+conn_at look n = conn_in (look n)
+
+-- ns has the same numbers, each once, and they rise
+pub record Lists (numbers ns : List ℕ) : Type 0 where
+  pub sorted : IsStrictlySortedBy nat_cmp ns
+  pub members : (q : ℕ) → list_any (nat_eq q) ns ≡ list_any (nat_eq q) numbers

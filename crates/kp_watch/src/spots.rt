@@ -1,8 +1,8 @@
 //! The watches of each path.
-ghost use Rattle.std.specs.Prelude.{◌≡◌, ℕ, List, Option, Some, None, true, cond, nat_eq, ◌&&◌, OnOk, OnErr, IfOk};
+ghost use Rattle.std.specs.Prelude.{◌≡◌, ℕ, List, Option, Some, None, true, map, cond, nat_eq, ◌&&◌, OnOk, OnErr, IfOk};
 ghost use Rattle.std.specs.Option.{option_copied};
 ghost use Rattle.std.specs.Str.{bytes_eq};
-ghost use Rattle.kp_watch.specs.Spots.{spot_at, number_in, number_at};
+ghost use Rattle.kp_watch.specs.Spots.{spot_at, number_in, number_at, pairs_in, AreApart};
 
 use indexmap::IndexMap;
 use kp_model::NoMemory;
@@ -105,5 +105,28 @@ pub fn find(spots: &Spots, path: &str, conn: u64) -> Option<u64>
     match spots.get(path) {
         Some(spot) => spot.get(&conn).copied(),
         None => None,
+    }
+}
+
+// The numbers of the watches in the spot.
+fn numbers_of(spot: &Spot, alloc: Global) -> Result<Vec<u64>, NoMemory>
+    ensures numbers { IfOk result (λ ids. ids.items ≡ map (λ (e : ℕ × ℕ). e.1) spot.now.entries) }
+    ensures apart { AreApart spot.now.entries }
+{
+    let mut ids = Vec::with_capacity(alloc, spot.len())?;
+    for number in spot.values() {
+        ids.push(*number)?;
+    }
+    Ok(ids)
+}
+
+/// The numbers of the watches of the path, in no order.
+pub fn numbers(spots: &Spots, alloc: Global, path: &str) -> Result<Vec<u64>, NoMemory>
+    ensures numbers { IfOk result (λ ids. ids.items ≡ map (λ (e : ℕ × ℕ). e.1) (pairs_in (spot_at spots.now.entries path.now))) }
+    ensures apart { AreApart (pairs_in (spot_at spots.now.entries path.now)) }
+{
+    match spots.get(path) {
+        Some(spot) => numbers_of(spot, alloc),
+        None => Ok(Vec::new(alloc)),
     }
 }

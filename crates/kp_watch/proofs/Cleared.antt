@@ -106,6 +106,17 @@ free_of (Some w) m n h e = absurd (omega (arith, h w refl, e))
 pub free : (es : Numbered) (m : ℕ) → AreBelow m es → watch_at es m ≡ None
 free es m h = free_of (watch_at es m) m m (λ w is. h m w is) refl
 
+-- every number is below the one after it
+below_step : (b : Bool) (m n : ℕ) (w v : Watch) (o : Option Watch) → (b ≡ true → m ≡ n) → (o ≡ Some v → n < m) → cond b (Some w) o ≡ Some v → n < m + 1
+below_step true m n w v o same h is = omega (arith, same refl)
+below_step false m n w v o same h is = omega (arith, h is)
+
+pub below_more : (es es' : Numbered) (m : ℕ) (w : Watch) → AreBelow m es → ((n : ℕ) → watch_at es' n ≡ cond (nat_eq m n) (Some w) (watch_at es n)) → AreBelow (m + 1) es'
+below_more es es' m w h there n v is = below_step (nat_eq m n) m n w v (watch_at es n) (eqb-true m n) (h n v) (sym (there n) ∙ is)
+
+pub below_still : (es es' : Numbered) (m : ℕ) → AreBelow m es → es' ≡ es → AreBelow (m + 1) es'
+below_still es es' m h same n v is = omega (arith, h n v (sym (ap (λ es. watch_at es n) same) ∙ is))
+
 last_from : (all es : Numbered) (m : ℕ) (w : Watch) → AreBelow m all → AreKnown all es → insert_entry nat_cmp es m w ≡ es ++ (m, w) ∷ []
 last_from all [] m w below h = refl
 last_from all (e ∷ es) m w below h =

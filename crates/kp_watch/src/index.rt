@@ -1,5 +1,5 @@
 //! The watches by their numbers, and the changes that keep the indexes in step with them.
-ghost use Rattle.std.specs.Prelude.{◌≡◌, ℕ, List, Option, Some, None, false, cond, nat_eq, ◌&&◌, ◌||◌, not, [], ◌∷◌, ◌++◌, OnOk, OnErr, IfOk};
+ghost use Rattle.std.specs.Prelude.{◌≡◌, ℕ, ◌+◌, List, Option, Some, None, false, cond, nat_eq, ◌&&◌, ◌||◌, not, [], ◌∷◌, ◌++◌, OnOk, OnErr, IfOk};
 ghost use Rattle.std.specs.List.{filter, list_any, flat_map, IsDistinct};
 ghost use Rattle.std.specs.Ordering.{nat_cmp};
 ghost use Rattle.std.specs.BTreeMap.{insert_entry};
@@ -180,6 +180,7 @@ pub fn enter_watch(
     requires below { AreBelow number book.old.entries }
     requires fresh { list_any (same_watch (record { path = path.now; kind = kind; conn = conn })) (watches_of book.old.entries) ≡ false }
     ensures indexed { AreIndexed book.new.entries sides.new own.new.entries }
+    ensures below { AreBelow (number + 1) book.new.entries }
     ensures ok { OnOk result (book.new.entries ≡ book.old.entries ++ (number, record { path = path.now; kind = kind; conn = conn }) ∷ []) }
     ensures err { OnErr result (book.new.entries ≡ book.old.entries) }
 {

@@ -3,7 +3,7 @@ use Rattle.std.specs.BTreeMap.{insert_entry}
 use Rattle.std.specs.Ordering.{nat_cmp}
 use Rattle.kp_watch.specs.declared.watch.Watch.{Watch}
 use Rattle.kp_watch.specs.Numbered.{watch_at}
-use Rattle.kp_watch.proofs.Cleared.{not_err, an_err, not_there, entered, taken_back, inserted_last}
+use Rattle.kp_watch.proofs.Cleared.{not_err, an_err, not_there, entered, taken_back, inserted_last, below_more, below_still}
 use Rattle.kp_watch.proofs.index.enter_watch.Goals as goal
 
 pub enter-requires : goal.enter-requires
@@ -35,3 +35,13 @@ returns-then-is_err-clause-indexed c =
     c.in_ok-enter.ensures.own
     c.take_watch.ensures
     c.leave.ensures
+
+pub returns-clause-below : goal.returns-clause-below
+returns-clause-below c =
+    below_more c.args.book.now.entries c.put_in.new.book.entries c.args.number (record { path = c.in_ok-text.text; kind = c.args.kind; conn = c.args.conn }) c.requires.below
+    (not_err c.put_in.result (sym c.is_err.ensures.value ∙ c.if-is_err.false) c.put_in.ensures.book)
+
+pub returns-then-is_err-clause-below : goal.returns-then-is_err-clause-below
+returns-then-is_err-clause-below c =
+    below_still c.args.book.now.entries c.put_in.new.book.entries c.args.number c.requires.below
+    (an_err c.put_in.result (sym c.is_err.ensures.value ∙ c.if-is_err.true) c.put_in.ensures.err)

@@ -19,11 +19,9 @@ use crate::creation::create;
 use crate::look::Look;
 use crate::plan::{Act, Effect, Found, Prepared, Stamp};
 use kp_model::errors::{BAD_ARGUMENTS, INVALID_ACL};
+use kp_model::limits::LAST_COUNT;
 use kp_model::{Acls, Bytes, Cmd, Event, Events, Meta, NoMemory, Op, Paths, Reply, Text};
 use std::alloc::Global;
-
-/// As many children as are shown.
-pub const MOST_KIDS: u32 = 2147483647;
 
 /// What a command on one node does, of a session with these ids, at an index and a time.
 #[tactic(auto, unfolding(kp_model::specs::Step::act))]
@@ -115,7 +113,7 @@ pub(crate) fn answered(alloc: Global, reply: Reply) -> Act
 pub fn rise(count: u32) -> u32
     ensures { result ≡ rises count }
 {
-    if count >= 2147483647 { 0 } else { count + 1 }
+    if count >= LAST_COUNT { 0 } else { count + 1 }
 }
 
 /// A list of two events.
@@ -183,12 +181,12 @@ fn kids_left<L: Look>(alloc: Global, look: &L, path: &str, kids: u32) -> Result<
     requires shown { kids ≡ min (length (children (L.nodes look.now) (parent path.now))) 2147483647 }
     ensures { IfOk result (λ left. left ≡ min (length (children (L.nodes look.now) (parent path.now)) - 1) 2147483647) }
 {
-    if kids < MOST_KIDS {
+    if kids < LAST_COUNT {
         return Ok(kids.saturating_sub(1));
     }
     let up = parent_of(alloc, path)?;
     let count = look.brood(alloc, up.as_str())?;
-    Ok(count.saturating_sub(1).min(2147483647) as u32)
+    Ok(count.saturating_sub(1).min(LAST_COUNT as usize) as u32)
 }
 
 // A node is removed, and its parent shows so many children then.

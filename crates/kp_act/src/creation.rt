@@ -10,11 +10,12 @@ ghost use Rattle.kp_model.specs.Step as step;
 ghost use Rattle.kp_act.specs.Effects.{DoesOn, IsChildPath, with_child_shown, made_act};
 ghost use Rattle.kp_act.specs.Looks.{HavePlaces};
 
-use crate::acting::{MOST_KIDS, answered, parent_of, rise, two_events};
+use crate::acting::{answered, parent_of, rise, two_events};
 use crate::checks::{is_creation, list_to_keep, may_create};
 use crate::look::Look;
 use crate::plan::{Act, Effect, Prepared, Stamp};
 use kp_model::errors::{BAD_ARGUMENTS, INVALID_ACL};
+use kp_model::limits::LAST_COUNT;
 use kp_model::{Acls, Bytes, Event, Meta, NoMemory, Paths, Reply, Text};
 use std::alloc::Global;
 
@@ -213,7 +214,7 @@ fn with_child(index: u64, up: Meta) -> Meta
         pzxid: index,
         cversion: rise(up.cversion),
         created: rise(up.created),
-        kids: up.kids.min(MOST_KIDS - 1) + 1,
+        kids: up.kids.min(LAST_COUNT - 1) + 1,
         ..up
     }
 }

@@ -3,14 +3,12 @@
 
 mod acting;
 mod checks;
-#[cfg(test)]
-mod copy_tests;
 mod creation;
 mod look;
 mod plan;
 mod session;
 
-pub use acting::{MOST_KIDS, act, act_on, parent_of, rise};
+pub use acting::{act, act_on, parent_of, rise};
 pub use look::{Look, OfView};
 pub use plan::{Act, Effect, Effects, Found, Plan, Prepared, Stamp};
 pub use session::{answer, attach, open, show};

@@ -4,7 +4,7 @@ use kp_model::{Acls, Bytes, Duplicate, Events, Items, Meta, NoMemory, Reply, Ses
 use std::alloc::Global;
 
 /// What an entry is answered.
-#[derive(Debug, Drop)]
+#[derive(Drop)]
 pub struct Prepared {
     pub reply: Reply,
     /// The events in the order in which they fire.
@@ -12,7 +12,7 @@ pub struct Prepared {
 }
 
 /// What a command does to the tree.
-#[derive(Debug, Drop)]
+#[derive(Drop)]
 pub enum Effect {
     /// Nothing, since the command asks for nothing or ends in an error.
     Nothing,
@@ -48,14 +48,14 @@ pub enum Effect {
 pub type Effects = Items<Effect>;
 
 /// The answer of a command and what it does.
-#[derive(Debug, Drop)]
+#[derive(Drop)]
 pub struct Act {
     pub prepared: Prepared,
     pub effect: Effect,
 }
 
 /// The answer of an entry and all that it does.
-#[derive(Debug, Drop)]
+#[derive(Drop)]
 pub struct Plan {
     pub prepared: Prepared,
     /// A session that is set, with its number; with None inside it goes.
@@ -66,14 +66,14 @@ pub struct Plan {
 }
 
 /// The numbers of a node and of its parent.
-#[derive(Clone, Copy, Debug)]
+#[derive(Clone, Copy)]
 pub struct Found {
     pub up: Meta,
     pub meta: Meta,
 }
 
 /// The index of an entry, and its time in milliseconds.
-#[derive(Clone, Copy, Debug)]
+#[derive(Clone, Copy)]
 pub struct Stamp {
     pub index: u64,
     pub time: u64,

@@ -17,11 +17,9 @@ ghost use Rattle.kp_act.specs.Plans.{IsPlan, answer_plan, opening_plan, session_
 use crate::plan::{Effects, Plan, Prepared};
 use kp_acl::{AclFail, digest_id};
 use kp_model::errors::{AUTH_FAILED, SESSION_EXPIRED};
+use kp_model::limits::LAST_NUMBER;
 use kp_model::{Bytes, Events, Items, NoMemory, Origin, Reply, Session, Text, View};
 use std::alloc::Global;
-
-/// The first number that no session and no epoch gets.
-const LAST_NUMBER: u64 = 4611686018427387904;
 
 /// An answer, and nothing that is done.
 pub fn answer(alloc: Global, reply: Reply) -> Plan

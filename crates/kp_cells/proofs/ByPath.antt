@@ -118,6 +118,11 @@ module _ {V : Type 0} (names : Naming) (h : IsNaming names) where
           ∙ ap (cond (nat_eq j k) v) (mirrors q ∙ ap (option_and_then (get m)) is)
           ∙ sym (get-put nat_cmp_total m k v j ∙ ap (λ b. cond b v (get m j)) (unsigned_tied j k))
 
+  -- a value more, by paths
+  pub by_path_insert : (m : FinMap nat_cmp V) (k : ℕ) (v : V) → Knows names k → by_path names (fin.insert m k v) ≡ fin.insert (by_path names m) (path_of names k) v
+  by_path_insert m k v known = same_map nat_list_cmp_total (slice_cmp-IsAntisymmetric nat_cmp-IsAntisymmetric) _ _ (λ q.
+      get-by_path names (fin.insert m k v) q ∙ sym (put_mirrors (by_path names m) m k (Some v) known (get-by_path names m) q))
+
   overlay_mirrors : (m' : FinMap path_cmp V) (m : FinMap nat_cmp V) (ws : List (ℕ × Option V)) → AreKnown names ws → Mirrors m' m → Mirrors (overlay m' (writes_by_path names ws)) (overlay m ws)
   overlay_mirrors m' m [] known mirrors = mirrors
   overlay_mirrors m' m (w ∷ ws) known mirrors =

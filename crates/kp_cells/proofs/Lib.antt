@@ -15,4 +15,4 @@ pub mod Traces
 pub mod Sets
 pub mod Kept
 pub mod Root
-pub mod OneChild
+pub mod Counts

@@ -36,7 +36,7 @@ module _ {K X Y : Type 0} where
   below_same R f k [] = refl
   below_same R f k (e ∷ es) = ap (λ b. is_lt (R k e.0) && b) (below_same R f k es)
 
-  sorted_same : (R : K → K → Ordering) (f : K → X → Y) (es : List (K × X)) → is_sorted R (map (λ e. (e.0, f e.0 e.1)) es) ≡ is_sorted R es
+  pub sorted_same : (R : K → K → Ordering) (f : K → X → Y) (es : List (K × X)) → is_sorted R (map (λ e. (e.0, f e.0 e.1)) es) ≡ is_sorted R es
   sorted_same R f [] = refl
   sorted_same R f (e ∷ es) = λ i. below_same R f e.0 es i && sorted_same R f es i
 

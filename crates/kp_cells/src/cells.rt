@@ -14,7 +14,7 @@ use crate::nodes::{Nodes, release};
 use crate::pair::{abandon_both, begin_four};
 use crate::trail::{Trail, begin_rest};
 use kp_layers::{GroupedLayers, Layers};
-use kp_model::{Acl, Acls, Bytes, Meta, NoMemory, Session, Text};
+use kp_model::{Acls, Bytes, Meta, NoMemory, Session};
 use std::alloc::Global;
 use std::marker::Model;
 
@@ -77,19 +77,6 @@ fn raised(applied: u64, more: bool) -> u64
     }
 }
 
-// The access list that gives every right to everyone.
-fn everyones_acl(alloc: Global) -> Result<Acls, NoMemory>
-    ensures { IfOk result (λ acl. acl ≡ open_acl) }
-{
-    let mut acl = Acls::new(alloc);
-    acl.push(Acl {
-        perms: 31,
-        scheme: Text::from_str(alloc, "world")?,
-        id: Text::from_str(alloc, "anyone")?,
-    })?;
-    Ok(acl)
-}
-
 // What is shown of a node that no entry made.
 fn blank_meta() -> Meta
     ensures { result ≡ meta_of 0 blank_node }
@@ -115,27 +102,41 @@ impl Cells {
     pub fn new(alloc: Global) -> Result<Cells, NoMemory>
         ensures { IfOk result (λ cells. cells ≡ settled 0 root_parts) }
     {
-        let mut cells = Cells::blank(alloc)?;
-        cells.begin()?;
-        cells.stage_root(alloc)?;
-        cells.seal();
-        let _ = cells.commit_front();
-        cells.applied = 0;
-        Ok(cells)
+        let mut cells = Cells::blank(alloc);
+        match cells.settle(alloc) {
+            Ok(()) => Ok(cells),
+            Err(none) => {
+                drop(cells);
+                Err(none)
+            }
+        }
+    }
+
+    // Makes the root, and takes it in.
+    fn settle(&mut self, alloc: Global) -> Result<(), NoMemory>
+        requires { self.old ≡ blank_overlays }
+        ensures { OnOk result (self.new ≡ settled 0 root_parts) }
+    {
+        self.begin()?;
+        self.stage_root(alloc)?;
+        self.seal();
+        let _ = self.commit_front();
+        self.applied = 0;
+        Ok(())
     }
 
     // No nodes and no sessions.
-    fn blank(alloc: Global) -> Result<Cells, NoMemory>
-        ensures { IfOk result (λ cells. cells ≡ blank_overlays) }
+    fn blank(alloc: Global) -> Cells
+        ensures { result ≡ blank_overlays }
     {
-        let metas = Layers::new(alloc)?;
-        let contents = Layers::new(alloc)?;
-        let acls = Layers::new(alloc)?;
-        let children = Layers::new(alloc)?;
-        let owners = GroupedLayers::new(alloc)?;
-        let sessions = GroupedLayers::new(alloc)?;
-        let next = Layers::new(alloc)?;
-        Ok(Cells {
+        let metas = Layers::new(alloc);
+        let contents = Layers::new(alloc);
+        let acls = Layers::new(alloc);
+        let children = Layers::new(alloc);
+        let owners = GroupedLayers::new(alloc);
+        let sessions = GroupedLayers::new(alloc);
+        let next = Layers::new(alloc);
+        Cells {
             alloc,
             names: Names::new(alloc),
             trail: Trail::new(alloc),
@@ -149,7 +150,7 @@ impl Cells {
             sessions,
             next,
             applied: 0,
-        })
+        }
     }
 
     // Stages the root and the first session number.
@@ -160,7 +161,7 @@ impl Cells {
     {
         self.stage_meta("/", Some(blank_meta()))?;
         self.stage_content("/", Some(Bytes::new(alloc)))?;
-        let acl = everyones_acl(alloc)?;
+        let acl = Acls::everyone(alloc)?;
         self.stage_acl("/", Some(acl))?;
         self.stage_next(1)
     }

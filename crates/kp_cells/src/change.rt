@@ -9,7 +9,7 @@ use std::alloc::Global;
 pub type Changes = Items<Change>;
 
 /// A node that is set. What `meta` says of the length and of the children is told by the tree.
-#[derive(Debug, Drop)]
+#[derive(Drop)]
 pub struct NodeValue {
     pub bytes: Bytes,
     pub acl: Acls,
@@ -17,7 +17,7 @@ pub struct NodeValue {
 }
 
 /// One change of the tree or its sessions.
-#[derive(Debug, Drop)]
+#[derive(Drop)]
 pub enum Change {
     /// The node at a path is set, or removed.
     Node(Text, Option<NodeValue>),

@@ -13,8 +13,6 @@ mod nodes;
 mod pair;
 mod pick;
 mod staging;
-#[cfg(test)]
-mod tests;
 mod trail;
 mod view;
 

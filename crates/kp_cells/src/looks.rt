@@ -1,9 +1,11 @@
 //! Look-ups by path, session number and part.
-ghost use Rattle.std.specs.Prelude.{◌≡◌, option_copied};
+ghost use Rattle.std.specs.Prelude.{◌≡◌, ◌==◌, not, option_copied};
 ghost use Rattle.std.specs.FinMap as map;
 ghost use Rattle.std.specs.Option.{option_and_then};
 ghost use Rattle.kp_layers.specs.Layering.{latest_of};
-ghost use Rattle.kp_cells.specs.Overlays.{latest_parts, committed_parts};
+ghost use Rattle.kp_cells.specs.Overlays.{latest_parts, committed_parts, committed_state};
+ghost use Rattle.kp_cells.specs.Parts.{FitTogether};
+ghost use Rattle.kp_cells.specs.Mapped.{kept};
 
 use crate::cells::Cells;
 use crate::names::Names;
@@ -44,6 +46,29 @@ impl Cells {
         ensures { result ≡ self.now.applied }
     {
         self.applied
+    }
+
+    /// How many nodes the committed state has. Costs the same however many there are, as the two
+    /// counts below do.
+    pub fn node_count(&self) -> u64
+        ensures { result ≡ map.len (committed_state self.now).nodes }
+    {
+        self.nodes.metas.committed_len()
+    }
+
+    /// How many nodes of the committed state have an owner.
+    pub fn owned_count(&self) -> u64
+        requires { FitTogether (committed_parts self.now) }
+        ensures { result ≡ map.len (kept (λ _ n. not (n.owner == 0)) (committed_state self.now).nodes) }
+    {
+        self.nodes.owners.committed_len()
+    }
+
+    /// How many sessions the committed state has.
+    pub fn session_count(&self) -> u64
+        ensures { result ≡ map.len (committed_state self.now).sessions }
+    {
+        self.sessions.committed_len()
     }
 
     /// What is shown of the node at the path under all layers.

@@ -10,13 +10,14 @@ ghost use Rattle.kp_act.specs.Effects.{IsChildPath, without_child_shown};
 ghost use Rattle.kp_act.specs.Several.{effected_nodes_by};
 ghost use Rattle.kp_act.specs.declared.plan.Effect.TheVariants as effect;
 
-use kp_act::{Effect, Effects, MOST_KIDS, rise};
+use kp_act::{Effect, Effects, rise};
+use kp_model::limits::LAST_COUNT;
 use kp_model::{Meta, NoMemory, Text, View};
 use std::alloc::Global;
 use std::collections::HashMap;
 
 /// What is known of a path: the numbers of its node, if there is one, and how many children it has.
-#[derive(Clone, Copy, Debug)]
+#[derive(Clone, Copy)]
 pub struct Known {
     pub meta: Option<Meta>,
     pub kids: u64,
@@ -76,7 +77,7 @@ fn look_at<V: View>(alloc: Global, view: &V, path: &str, meta: Meta) -> Result<K
     requires { Some meta ≡ meta_at (V.state view.now).nodes path.now }
     ensures { IfOk result (IsKnown (V.state view.now).nodes path.now) }
 {
-    if meta.kids < MOST_KIDS {
+    if meta.kids < LAST_COUNT {
         Ok(Known {
             meta: Some(meta),
             kids: meta.kids as u64,
@@ -164,7 +165,7 @@ fn take_out(
     ensures kept { OnOk result ((p : List ℕ) → known_at draft.new.kept.entries p ≡ cond (bytes_eq path.now p) (Some (record { meta = None; kids = kids })) (cond (bytes_eq up.now p) (Some (record { meta = Some (without_child_shown index (min (siblings - 1) 2147483647) meta); kids = siblings - 1 })) (known_at draft.old.kept.entries p))) }
 {
     let left = siblings.saturating_sub(1);
-    let meta = without_child(index, meta, left.min(2147483647) as u32);
+    let meta = without_child(index, meta, left.min(LAST_COUNT as u64) as u32);
     note(
         alloc,
         &mut draft.kept,

@@ -1,11 +1,13 @@
 pub mod BodyWrites
 pub mod CommandWrites
+pub mod Cuts
 pub mod EntryLaws
 pub mod FieldLaws
-pub mod Kepts
 pub mod Lists
 pub mod Raws
 pub mod RecordLaws
 pub mod RecordWrites
+pub mod Runs
+pub mod Spelled
 pub mod Utf8
 pub mod Writes

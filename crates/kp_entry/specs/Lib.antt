@@ -3,4 +3,8 @@ pub mod Commands
 pub mod Entries
 pub mod Decoding
 pub mod Records
-pub mod Keeping
+pub mod Pieces
+pub mod Spellings
+pub mod Heads
+pub mod Log
+pub mod Held

@@ -14,7 +14,8 @@ use kp_jute::{JuteFail, Reader};
 use kp_model::{Body, Entry};
 use std::alloc::Global;
 
-/// Reads an entry: its term, its time and what it asks for.
+/// Reads an entry: its term, its time and what it asks for. A reader of which one is refused is to be dropped: it may
+/// stand behind some of its fields.
 pub fn read_entry(alloc: Global, reader: &mut Reader<'_>) -> Result<Entry, JuteFail>
     ensures { Gives (λ e. e) result reader.new (entries.read reader.old) }
 {

@@ -14,7 +14,7 @@ use kp_jute::{JuteFail, Reader};
 use kp_model::{Cmd, Op};
 use std::alloc::Global;
 
-/// Reads a command: its kind and the fields of the kind.
+/// Reads a command: its kind and the fields of the kind. A reader of which one is refused is to be dropped.
 #[tactic(auto, unfolding(crate::specs::Commands::cmd_in))]
 pub fn read_cmd(alloc: Global, reader: &mut Reader<'_>) -> Result<Cmd, JuteFail>
     ensures { Gives (λ c. c) result reader.new (cmds.read reader.old) }

@@ -1,31 +1,45 @@
 //! Reading the fields that the log's formats have in common.
 
-ghost use Rattle.std.specs.Prelude.{◌≡◌, length, IfOk, IsTrue};
+ghost use Rattle.std.specs.Prelude.{◌≡◌, length, IfErr, IfOk, IsTrue, OnErr};
 ghost use Rattle.std.specs.Int.{w8};
-ghost use Rattle.kp_jute.specs.Form.{Gives, Answers};
+ghost use Rattle.kp_jute.specs.Form.{Gives, Answers, IsOfBytes};
 ghost use Rattle.kp_jute.specs.Jute.{unsigned_of, valid_text};
 ghost use Rattle.kp_model.specs.Grammar.{is_number, is_timeout, is_origin};
-ghost use Rattle.kp_entry.specs.Fields.{u8s, numbers, timeouts, blobs, strings, passwords, origins};
+ghost use Rattle.kp_entry.specs.Fields.{u8s, u32s, numbers, timeouts, blobs, strings, passwords, origins};
 
-use crate::limits::{GREATEST_TIMEOUT, LAST_NUMBER, LEAST_TIMEOUT};
+use crate::limits::{GREATEST_TIMEOUT, LEAST_TIMEOUT};
 use crate::list::Item;
 use crate::put_fields::{put_text, put_word};
 use kp_jute::{JuteFail, Reader};
+use kp_model::limits::LAST_NUMBER;
 use kp_model::{Acl, Bytes, NoMemory, Origin, Text};
 use std::alloc::Global;
 
-/// Reads a byte.
+/// Reads a byte. Where there is none the reader stays.
 #[tactic(auto, using(crate::proofs::Raws::raw_len), unfolding(kp_jute::specs::Jute::unsigned_at))]
 pub fn read_byte(reader: &mut Reader<'_>) -> Result<u8, JuteFail>
-    ensures { Gives (λ n. n) result reader.new (u8s.read reader.old) }
+    ensures read { Gives (λ n. n) result reader.new (u8s.read reader.old) }
+    ensures of_bytes { IfErr result (λ e. IsOfBytes e) }
+    ensures err { OnErr result (reader.new ≡ reader.old) }
 {
     let bytes = reader.take(1)?;
     Ok(byte_from(bytes))
 }
 
-/// Reads an index, a term, a time, a session, an epoch or a running number: 8 bytes, at most 2^62.
+/// Reads a number of 4 bytes. Where there are fewer the reader stays.
+pub fn read_word(reader: &mut Reader<'_>) -> Result<u32, JuteFail>
+    ensures read { Gives (λ n. n) result reader.new (u32s.read reader.old) }
+    ensures of_bytes { IfErr result (λ e. IsOfBytes e) }
+    ensures err { OnErr result (reader.new ≡ reader.old) }
+{
+    reader.unsigned_int()
+}
+
+/// Reads an index, a term, a time, a session, an epoch or a running number: 8 bytes, at most 2^62. A reader of which one
+/// is refused is to be dropped: it may stand behind it.
 pub fn read_number(reader: &mut Reader<'_>) -> Result<u64, JuteFail>
     ensures read { Gives (λ n. n) result reader.new (numbers.read reader.old) }
+    ensures of_bytes { IfErr result (λ e. IsOfBytes e) }
     ensures range { IfOk result (λ n. IsTrue (is_number n)) }
 {
     let at = reader.place();
@@ -36,9 +50,11 @@ pub fn read_number(reader: &mut Reader<'_>) -> Result<u64, JuteFail>
     Ok(number)
 }
 
-/// Reads a session's timeout: 4 bytes, 10,000 to 100,000 milliseconds.
+/// Reads a session's timeout: 4 bytes, 10,000 to 100,000 milliseconds. A reader of which one is refused is to be
+/// dropped: it may stand behind it.
 pub fn read_timeout(reader: &mut Reader<'_>) -> Result<u32, JuteFail>
     ensures read { Gives (λ n. n) result reader.new (timeouts.read reader.old) }
+    ensures of_bytes { IfErr result (λ e. IsOfBytes e) }
     ensures range { IfOk result (λ n. IsTrue (is_timeout n)) }
 {
     let at = reader.place();
@@ -49,7 +65,8 @@ pub fn read_timeout(reader: &mut Reader<'_>) -> Result<u32, JuteFail>
     Ok(timeout)
 }
 
-/// Reads bytes behind their length. They are copied once, and only where they are all there.
+/// Reads bytes behind their length. They are copied once, and only where they are all there. A reader of
+/// which they are refused is to be dropped: it may stand behind their length.
 pub fn read_bytes(alloc: Global, reader: &mut Reader<'_>) -> Result<Bytes, JuteFail>
     ensures { Gives (λ b. b) result reader.new (blobs.read reader.old) }
 {
@@ -58,7 +75,8 @@ pub fn read_bytes(alloc: Global, reader: &mut Reader<'_>) -> Result<Bytes, JuteF
     Ok(Bytes::from_vec(bytes))
 }
 
-/// Reads a text behind its length. Its bytes are copied once, and only where they are text.
+/// Reads a text behind its length. Its bytes are copied once, and only where they are text. A reader of which
+/// it is refused is to be dropped: it may stand behind it.
 pub fn read_text(alloc: Global, reader: &mut Reader<'_>) -> Result<Text, JuteFail>
     ensures { Gives (λ t. t) result reader.new (strings.read reader.old) }
 {
@@ -69,10 +87,12 @@ pub fn read_text(alloc: Global, reader: &mut Reader<'_>) -> Result<Text, JuteFai
     Ok(Text::from_string(text))
 }
 
-/// Reads a session's password: 16 bytes.
+/// Reads a session's password: 16 bytes. Where there are fewer the reader stays.
 #[tactic(auto, using(crate::proofs::Raws::raw_len))]
 pub fn read_password(reader: &mut Reader<'_>) -> Result<[u8; 16], JuteFail>
-    ensures { Gives (λ b. b) result reader.new (passwords.read reader.old) }
+    ensures read { Gives (λ b. b) result reader.new (passwords.read reader.old) }
+    ensures of_bytes { IfErr result (λ e. IsOfBytes e) }
+    ensures err { OnErr result (reader.new ≡ reader.old) }
 {
     let bytes = reader.take(16)?;
     let mut passwd = [0; 16];
@@ -80,9 +100,11 @@ pub fn read_password(reader: &mut Reader<'_>) -> Result<[u8; 16], JuteFail>
     Ok(passwd)
 }
 
-/// Reads an origin: the server's number, and its boot and connection numbers.
+/// Reads an origin: the server's number, and its boot and connection numbers. A reader of which one is
+/// refused is to be dropped: it may stand behind some of its fields.
 pub fn read_origin(reader: &mut Reader<'_>) -> Result<Origin, JuteFail>
     ensures read { Gives (λ o. o) result reader.new (origins.read reader.old) }
+    ensures of_bytes { IfErr result (λ e. IsOfBytes e) }
     ensures range { IfOk result (λ o. IsTrue (is_origin o)) }
 {
     let node = read_byte(reader)?;
@@ -107,6 +129,20 @@ impl Item for Acl {
         put_word(out, self.perms)?;
         put_text(out, &self.scheme)?;
         put_text(out, &self.id)
+    }
+}
+
+impl Item for Text {
+    ghost use Rattle.kp_entry.specs.Fields.{strings};
+
+    ghost form = { strings };
+
+    fn read(alloc: Global, reader: &mut Reader<'_>) -> Result<Text, JuteFail> {
+        read_text(alloc, reader)
+    }
+
+    fn write(&self, out: &mut Vec<u8>) -> Result<(), NoMemory> {
+        put_text(out, self)
     }
 }
 

@@ -1,7 +1,7 @@
 //! What the tag bytes of the formats tell.
 
 /// The kind of an operation, which a multi may hold too.
-#[derive(Clone, Copy, Debug, PartialEq, Eq)]
+#[derive(Clone, Copy)]
 pub enum OpKind {
     Create,
     Delete,
@@ -10,7 +10,7 @@ pub enum OpKind {
 }
 
 /// The kind of a command.
-#[derive(Clone, Copy, Debug, PartialEq, Eq)]
+#[derive(Clone, Copy)]
 pub enum CmdKind {
     Op(OpKind),
     SetAcl,
@@ -21,7 +21,7 @@ pub enum CmdKind {
 }
 
 /// The kind of an entry.
-#[derive(Clone, Copy, Debug, PartialEq, Eq)]
+#[derive(Clone, Copy)]
 pub enum BodyKind {
     Noop,
     OpenSession,
@@ -31,7 +31,7 @@ pub enum BodyKind {
 }
 
 /// The kind of a record that has bytes.
-#[derive(Clone, Copy, Debug, PartialEq, Eq)]
+#[derive(Clone, Copy)]
 pub enum RecordKind {
     Vote,
     Boot,

@@ -7,7 +7,8 @@ ghost use Rattle.kp_jute.specs.Form.{Wrote};
 ghost use Rattle.kp_jute.specs.Jute.{booleans};
 ghost use Rattle.kp_entry.specs.Fields.{u8s, u32s, u64s, numbers, timeouts, blobs, strings, passwords, origins};
 
-use crate::limits::{GREATEST_TIMEOUT, LAST_NUMBER, LEAST_TIMEOUT, MOST};
+use crate::limits::{GREATEST_TIMEOUT, LEAST_TIMEOUT};
+use kp_model::limits::{LAST_NUMBER, LONGEST_FIELD};
 use kp_model::{NoMemory, Origin, Text};
 
 /// Writes a byte.
@@ -69,7 +70,7 @@ pub fn put_flag(out: &mut Vec<u8>, value: bool) -> Result<(), NoMemory>
 pub fn put_bytes(out: &mut Vec<u8>, value: &[u8]) -> Result<(), NoMemory>
     ensures { OnOk result (Wrote blobs value.now out.old.items out.new.items) }
 {
-    if value.len() > MOST {
+    if value.len() > LONGEST_FIELD {
         return Err(NoMemory);
     }
     put_word(out, value.len() as u32)?;

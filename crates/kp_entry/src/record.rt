@@ -9,15 +9,25 @@ ghost use Rattle.kp_entry.specs.Records.{votes, ballots, record_kinds, record_nu
 use crate::body::read_entry;
 use crate::fields::{read_byte, read_number};
 use crate::kinds::RecordKind;
-use crate::limits::{LAST_NUMBER, LAST_VOTE};
+use crate::limits::LAST_VOTE;
 use crate::put_body::put_entry;
 use crate::put_fields::{put_byte, put_number};
 use kp_jute::{JuteFail, Reader};
+use kp_model::limits::LAST_NUMBER;
 use kp_model::{Duplicate, Entry, NoMemory};
 use std::alloc::Global;
 
+/// The first byte of a record of a vote.
+pub(crate) const VOTE: u8 = 1;
+
+/// The first byte of a record of an entry.
+pub(crate) const APPEND: u8 = 3;
+
+/// The first byte of a record of a truncation.
+pub(crate) const TRUNCATE: u8 = 4;
+
 /// What a server must keep of one step, so that it is there after a stop.
-#[derive(Debug, Drop)]
+#[derive(Drop)]
 pub enum Record {
     /// The term is this one, and the vote in it went to this server, or to none where it is 0.
     Vote { term: u64, vote: u8 },
@@ -67,7 +77,8 @@ impl Duplicate for Record {
     }
 }
 
-/// Reads a record: its kind and the fields of the kind.
+/// Reads a record: its kind and the fields of the kind. A reader of which one is refused is to be dropped: it may stand
+/// behind some of its fields.
 #[tactic(auto, unfolding(crate::specs::Records::record_in))]
 pub fn read_record(alloc: Global, reader: &mut Reader<'_>) -> Result<Record, JuteFail>
     ensures { Gives (λ r. r) result reader.new (records.read reader.old) }

@@ -81,10 +81,10 @@ base_remove old new key h = same _ _ (λ q.
     ∙ sym (get-remove nat_cmp_total (base_of old) key q))
 
 -- ---- a look-up in changed entries
-here : {A : Type 0} (key k : ℕ) (x y : A) → key ≡ k → cond (nat_eq key k) x y ≡ x
+pub here : {A : Type 0} (key k : ℕ) (x y : A) → key ≡ k → cond (nat_eq key k) x y ≡ x
 here key k x y e = ap (λ b. cond b x y) (ap (nat_eq key) (sym e) ∙ nat_eq_equiv.refl key)
 
-apart : {A : Type 0} (key k : ℕ) (x y : A) → key ≢ k → cond (nat_eq key k) x y ≡ y
+pub apart : {A : Type 0} (key k : ℕ) (x y : A) → key ≢ k → cond (nat_eq key k) x y ≡ y
 apart key k x y h = elim (eqb_tells key k) [ inl p ↦ absurd (h p.1) | inr p ↦ ap (λ b. cond b x y) p.0 ]
 
 -- the map without a session

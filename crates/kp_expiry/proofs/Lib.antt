@@ -5,3 +5,4 @@ pub mod Indexed
 pub mod Taken
 pub mod Listed
 pub mod OneList
+pub mod Again

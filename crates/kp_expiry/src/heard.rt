@@ -3,7 +3,7 @@ ghost use Rattle.std.specs.Prelude.{◌≡◌};
 ghost use Rattle.kp_expiry.specs.Deadline.{deadline};
 
 /// When a session was last heard, and how long it may then be silent, in milliseconds.
-#[derive(Clone, Copy, Debug, PartialEq, Eq)]
+#[derive(Clone, Copy)]
 pub struct Heard {
     /// The time when it was last heard.
     pub heard: u64,

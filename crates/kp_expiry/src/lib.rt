@@ -1,8 +1,8 @@
 //! When sessions expire: each session's deadline, and those whose deadline has come.
 #![tactic(auto)]
 
-pub mod expiry;
-pub mod heard;
+mod expiry;
+mod heard;
 mod listing;
 mod tree;
 

@@ -71,7 +71,11 @@ fn node_at(nodes: &[usize], at: usize) -> Option<usize>
 
 /// The deadlines that have come, each with its session, in the order of the nodes. It goes down only
 /// to nodes that have such a deadline at or below them.
-pub fn find_due(slots: &[Slot], alloc: Global, now: u64) -> Result<Vec<(u128, u64)>, NoMemory>
+pub(crate) fn find_due(
+    slots: &[Slot],
+    alloc: Global,
+    now: u64,
+) -> Result<Vec<(u128, u64)>, NoMemory>
     requires { AreRight slots.now }
     ensures { IfOk result (λ found. found.items ≡ filter (has_come now) (tags slots.now)) }
 {
@@ -89,7 +93,7 @@ pub fn find_due(slots: &[Slot], alloc: Global, now: u64) -> Result<Vec<(u128, u6
 }
 
 /// The pairs in their order.
-pub fn in_order(mut found: Vec<(u128, u64)>) -> Vec<(u128, u64)>
+pub(crate) fn in_order(mut found: Vec<(u128, u64)>) -> Vec<(u128, u64)>
     ensures moved { IsPermutation found.items result.items }
     ensures sorted { IsSorted pair_cmp result.items }
 {
@@ -98,7 +102,7 @@ pub fn in_order(mut found: Vec<(u128, u64)>) -> Vec<(u128, u64)>
 }
 
 /// The sessions of the pairs.
-pub fn sessions(found: &[(u128, u64)], alloc: Global) -> Result<Vec<u64>, NoMemory>
+pub(crate) fn sessions(found: &[(u128, u64)], alloc: Global) -> Result<Vec<u64>, NoMemory>
     ensures { IfOk result (λ sessions. sessions.items ≡ map (λ (p : ℕ × ℕ). p.1) found.now) }
 {
     let mut sessions = Vec::new(alloc);

@@ -9,13 +9,13 @@ ghost use Rattle.kp_expiry.specs.Index.{taken_out, mover};
 /// One session in the tree. The slots stand in one vector, and the children of the node `i` are the
 /// nodes `2 * i + 1` and `2 * i + 2`, where there are so many.
 #[derive(Clone, Copy)]
-pub struct Slot {
+pub(crate) struct Slot {
     /// The session.
-    pub session: u64,
+    pub(crate) session: u64,
     /// Its deadline, in milliseconds.
-    pub deadline: u128,
+    pub(crate) deadline: u128,
     /// The least deadline of this node and all nodes below it.
-    pub least: u128,
+    pub(crate) least: u128,
 }
 
 // The earlier of the deadline and the least one of the child, if there is a child.
@@ -84,8 +84,20 @@ fn mend(slots: &mut [Slot], node: usize)
     }
 }
 
+/// Makes the least deadlines right at each node, from the last one up.
+pub(crate) fn mend_all(slots: &mut [Slot])
+    ensures tags { tags slots.new ≡ tags slots.old }
+    ensures right { AreRight slots.new }
+{
+    let mut node = slots.len();
+    while 0 < node {
+        node -= 1;
+        renew(slots, node);
+    }
+}
+
 /// Puts the session with its deadline in the place of what stands at the node.
-pub fn put(slots: &mut [Slot], node: usize, session: u64, deadline: u128)
+pub(crate) fn put(slots: &mut [Slot], node: usize, session: u64, deadline: u128)
     requires inside { node < length slots.old }
     requires right { AreRight slots.old }
     ensures tags { tags slots.new ≡ slice_set (tags slots.old) node (deadline, session) }
@@ -98,7 +110,7 @@ pub fn put(slots: &mut [Slot], node: usize, session: u64, deadline: u128)
 }
 
 /// Adds the session with its deadline as the last node.
-pub fn add(slots: &mut Vec<Slot>, session: u64, deadline: u128)
+pub(crate) fn add(slots: &mut Vec<Slot>, session: u64, deadline: u128)
     requires room { vec_len slots.old < vec_capacity slots.old }
     requires right { AreRight slots.old.items }
     ensures tags { tags slots.new.items ≡ tags slots.old.items ++ (deadline, session) ∷ [] }
@@ -128,7 +140,7 @@ fn take_last(slots: &mut Vec<Slot>) -> Slot
 
 /// Takes the node's session out. The session of the last node is put there, and is answered, if it
 /// is another one.
-pub fn take_out(slots: &mut Vec<Slot>, node: usize) -> Option<u64>
+pub(crate) fn take_out(slots: &mut Vec<Slot>, node: usize) -> Option<u64>
     requires inside { node < vec_len slots.old }
     requires right { AreRight slots.old.items }
     ensures tags { (i : ℕ) → slice_get (tags slots.new.items) i ≡ taken_out (tags slots.old.items) node i }

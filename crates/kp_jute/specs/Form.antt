@@ -147,6 +147,13 @@ IsOfBytes (Short at) = Unit {0}
 IsOfBytes (BadLength at) = Unit {0}
 IsOfBytes (BadByte at) = Unit {0}
 
+-- the place that a refusal names; want of memory names none
+abbrev pub place_of : JuteFail → Option ℕ
+place_of NoMemory = None
+place_of (Short at) = Some at
+place_of (BadLength at) = Some at
+place_of (BadByte at) = Some at
+
 -- ---- what a call of a writer has to do with a spelling
 
 -- the value has a spelling, and it stands behind what was written before

@@ -77,7 +77,8 @@ impl<'a> Reader<'a> {
 
     /// Looks whether all bytes were read; the first that is left is refused.
     pub fn end(&self) -> Result<(), JuteFail>
-        ensures { Answers (λ u. u) result (ended (Ok (tt, self.now))) }
+        ensures read { Answers (λ u. u) result (ended (Ok (tt, self.now))) }
+        ensures of_bytes { IfErr result (λ e. IsOfBytes e) }
     {
         if !self.is_at_end() {
             return Err(JuteFail::BadByte { at: self.place() });
@@ -307,7 +308,8 @@ impl<'a> Reader<'a> {
         }
     }
 
-    fn copy(&self) -> Reader<'a>
+    /// A reader that stands at the same place of the same bytes.
+    pub fn copy(&self) -> Reader<'a>
         ensures { result ≡ self.now }
     {
         Reader {

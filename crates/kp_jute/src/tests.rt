@@ -1,4 +1,5 @@
 use crate::{JuteFail, NoMemory, Reader, Writer};
+use std::alloc::Global;
 
 // A create request as ZooKeeper's clients send it: of /app, empty, for anyone, with no flags.
 const CREATE: &[u8] =
@@ -7,36 +8,52 @@ const CREATE: &[u8] =
 // The fields of a connect request behind its protocol version, with a null password.
 const CONNECT: &[u8] = b"\0\0\0\0\0\0\0\x01\0\0\x75\x30\xff\xff\xff\xff\x01";
 
+// Whether the next text is this one.
+fn reads_text(alloc: Global, reader: &mut Reader<'_>, wanted: &str) -> Result<bool, JuteFail> {
+    let text = reader.ustring(alloc)?;
+    let same = text.as_deref() == Some(wanted);
+    drop(text);
+    Ok(same)
+}
+
+// Whether there is a buffer next without a byte.
+fn reads_nothing(alloc: Global, reader: &mut Reader<'_>) -> Result<bool, JuteFail> {
+    let bytes = reader.buffer(alloc)?;
+    let same = bytes.as_deref() == Some(&[][..]);
+    drop(bytes);
+    Ok(same)
+}
+
+// Whether there is an access list next that gives everything to anyone.
+fn reads_anyone(alloc: Global, reader: &mut Reader<'_>) -> Result<bool, JuteFail> {
+    let rights = reader.count()? == Some(1) && reader.int()? == 31;
+    Ok(rights && reads_text(alloc, reader, "world")? && reads_text(alloc, reader, "anyone")?)
+}
+
+fn reads_create(alloc: Global, reader: &mut Reader<'_>) -> Result<bool, JuteFail> {
+    let head = reader.int()? == 1 && reader.int()? == 1;
+    let node = reads_text(alloc, reader, "/app")? && reads_nothing(alloc, reader)?;
+    let anyone = reads_anyone(alloc, reader)? && reader.place() == 47;
+    Ok(head && node && anyone && reader.int()? == 0 && reader.is_at_end())
+}
+
 #[test]
 fn reads_a_create_request(rt: HostRuntime) -> Result<(), JuteFail> {
-    let mut reader = Reader::new(CREATE);
-    assert_eq!(rt; reader.int()?, 1);
-    assert_eq!(rt; reader.int()?, 1);
-    assert_eq!(rt; reader.ustring(rt.alloc())?.as_deref(), Some("/app"));
-    assert_eq!(rt; reader.buffer(rt.alloc())?.as_deref(), Some(&[][..]));
-    assert_eq!(rt; reader.count()?, Some(1));
-    assert_eq!(rt; reader.int()?, 31);
-    assert_eq!(rt; reader.ustring(rt.alloc())?.as_deref(), Some("world"));
-    assert_eq!(rt; reader.ustring(rt.alloc())?.as_deref(), Some("anyone"));
-    assert_eq!(rt; reader.place(), 47);
-    assert_eq!(rt; reader.int()?, 0);
-    assert!(rt; reader.is_at_end());
+    assert!(rt; reads_create(rt.alloc(), &mut Reader::new(CREATE))?);
     Ok(())
 }
 
 #[test]
 fn reads_a_connect_request(rt: HostRuntime) -> Result<(), JuteFail> {
     let mut reader = Reader::new(CONNECT);
-    assert_eq!(rt; reader.long()?, 1);
-    assert_eq!(rt; reader.int()?, 30_000);
-    assert_eq!(rt; reader.buffer(rt.alloc())?.as_deref(), None);
+    assert!(rt; reader.long()? == 1);
+    assert!(rt; reader.int()? == 30_000);
+    assert!(rt; reader.buffer(rt.alloc())?.as_deref() == None);
     assert!(rt; reader.boolean()?);
     Ok(())
 }
 
-#[test]
-fn writes_what_is_sent(rt: HostRuntime) -> Result<(), NoMemory> {
-    let mut writer = Writer::new(rt.alloc());
+fn write_create(writer: &mut Writer) -> Result<(), NoMemory> {
     writer.int(1)?;
     writer.int(1)?;
     writer.ustring(Some("/app"))?;
@@ -45,14 +62,30 @@ fn writes_what_is_sent(rt: HostRuntime) -> Result<(), NoMemory> {
     writer.int(31)?;
     writer.ustring(Some("world"))?;
     writer.ustring(Some("anyone"))?;
-    writer.int(0)?;
-    assert_eq!(rt; &writer.finish()[..], CREATE);
-    let mut writer = Writer::new(rt.alloc());
+    writer.int(0)
+}
+
+fn write_connect(writer: &mut Writer) -> Result<(), NoMemory> {
     writer.long(1)?;
     writer.int(30_000)?;
     writer.buffer(None)?;
-    writer.boolean(true)?;
-    assert_eq!(rt; &writer.finish()[..], CONNECT);
+    writer.boolean(true)
+}
+
+#[test]
+fn writes_what_is_sent(rt: HostRuntime) -> Result<(), NoMemory> {
+    let mut create = Writer::new(rt.alloc());
+    let written = write_create(&mut create);
+    let create = create.finish();
+    let mut connect = Writer::new(rt.alloc());
+    let ended = write_connect(&mut connect);
+    let connect = connect.finish();
+    let same = create.as_slice() == CREATE && connect.as_slice() == CONNECT;
+    drop(create);
+    drop(connect);
+    written?;
+    ended?;
+    assert!(rt; same);
     Ok(())
 }
 
@@ -63,20 +96,17 @@ const PACKET: &[u8] = b"\0\0\0\x05\xff\xff\xff\xfe\x07\x09";
 fn reads_a_packet_by_itself(rt: HostRuntime) -> Result<(), JuteFail> {
     let mut reader = Reader::new(PACKET);
     let mut packet = reader.packet()?;
-    assert_eq!(rt; packet.remaining(), 5);
-    assert_eq!(rt; packet.unsigned_int()?, 0xffff_fffe);
-    assert_eq!(rt; packet.place(), 8);
-    assert_eq!(rt; packet.end(), Err(JuteFail::BadByte { at: 8 }));
+    assert!(rt; packet.remaining() == 5);
+    assert!(rt; packet.unsigned_int()? == 0xffff_fffe);
+    assert!(rt; packet.place() == 8);
+    assert!(rt; packet.end() == Err(JuteFail::BadByte { at: 8 }));
     assert!(rt; packet.take(2).is_err());
-    assert_eq!(rt; packet.take(1)?, &[7][..]);
+    assert!(rt; packet.take(1)? == &[7][..]);
     packet.end()?;
-    assert_eq!(rt; reader.rest(), &[9][..]);
-    assert_eq!(rt; reader.take_rest(), &[9][..]);
+    assert!(rt; reader.rest() == &[9][..]);
+    assert!(rt; reader.take_rest() == &[9][..]);
     reader.end()?;
-    assert_eq!(rt;
-        Reader::new(&PACKET[1..]).unsigned_long()?,
-        0x05ff_ffff_fe07
-    );
+    assert!(rt; Reader::new(&PACKET[1..]).unsigned_long()? == 0x05ff_ffff_fe07);
     Ok(())
 }
 
@@ -85,9 +115,9 @@ fn writes_a_packet(rt: HostRuntime) -> Result<(), NoMemory> {
     let mut writer = Writer::for_packet(rt.alloc())?;
     writer.unsigned_int(0xffff_fffe)?;
     writer.raw(&[7])?;
-    assert_eq!(rt; &writer.finish_packet()?[..], &PACKET[..9]);
+    assert!(rt; &writer.finish_packet()?[..] == &PACKET[..9]);
     let mut writer = Writer::new(rt.alloc());
     writer.unsigned_long(0x0100_0000_0000_00ff)?;
-    assert_eq!(rt; &writer.finish()[..], &b"\x01\0\0\0\0\0\0\xff"[..]);
+    assert!(rt; &writer.finish()[..] == &b"\x01\0\0\0\0\0\0\xff"[..]);
     Ok(())
 }

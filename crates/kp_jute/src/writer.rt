@@ -6,7 +6,7 @@ ghost use Rattle.kp_jute.specs.Form.{Wrote};
 ghost use Rattle.kp_jute.specs.Jute.{ints, longs, unsigned_ints, unsigned_longs, booleans, counts, buffer, buffers, texts, gap};
 
 use crate::memory::NoMemory;
-use std::alloc::Global;
+use std::alloc::{AllocError, Global};
 use std::marker::Model;
 
 /// The greatest length or count that its int can hold.
@@ -46,15 +46,16 @@ impl Writer {
     }
 
     /// The packet of what was written behind the gap for its length, with the length in it. Takes no memory:
-    /// answers `NoMemory` only where more than 2^31 - 1 bytes stand behind the gap, or there is no gap.
+    /// answers `NoMemory` exactly where more than 2^31 - 1 bytes stand behind the gap.
     #[tactic(auto, unfolding(crate::specs::Jute::number))]
     pub fn finish_packet(self) -> Result<Vec<u8>, NoMemory>
+        requires begun { (body : List ℕ) × (self ≡ gap ++ body) }
         ensures ok { (body : List ℕ) → self ≡ gap ++ body → IfOk result (λ v. (length body < 2 ^ 31) × (v.items ≡ buffer (Some body))) }
         ensures err { (body : List ℕ) → self ≡ gap ++ body → IfErr result (λ _. 2 ^ 31 ≤ length body) }
     {
         let mut bytes = self.bytes;
-        if bytes.len() < 4 || bytes.len() - 4 > MOST as usize {
-            return Err(NoMemory);
+        if bytes.len() - 4 > MOST as usize {
+            return Err(AllocError);
         }
         let length = (bytes.len() - 4) as i32;
         fill(&mut bytes, length.to_be_bytes());
@@ -135,7 +136,7 @@ impl Writer {
             None => self.int(-1),
             Some(n) => {
                 if n > MOST {
-                    return Err(NoMemory);
+                    return Err(AllocError);
                 }
                 self.int(n as i32)
             }
@@ -152,7 +153,7 @@ impl Writer {
             None => self.count(None),
             Some(bytes) => {
                 if bytes.len() > MOST as usize {
-                    return Err(NoMemory);
+                    return Err(AllocError);
                 }
                 add_field(&mut self.bytes, bytes)
             }
@@ -169,7 +170,7 @@ impl Writer {
             None => self.count(None),
             Some(text) => {
                 if text.len() > MOST as usize {
-                    return Err(NoMemory);
+                    return Err(AllocError);
                 }
                 add_field(&mut self.bytes, bytes_of(text))
             }
@@ -200,7 +201,7 @@ fn add_field(bytes: &mut Vec<u8>, field: &[u8]) -> Result<(), NoMemory>
     bytes.extend_from_slice(&(field.len() as i32).to_be_bytes())?;
     if bytes.extend_from_slice(field).is_err() {
         bytes.truncate(len);
-        return Err(NoMemory);
+        return Err(AllocError);
     }
     Ok(())
 }

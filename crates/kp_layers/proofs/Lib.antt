@@ -6,3 +6,5 @@ pub mod Used
 pub mod Listed
 pub mod Counted
 pub mod InGroups
+mod Replaced
+mod Filled

@@ -1,5 +1,5 @@
 -- How the cells and the log of a `History` hang together.
-use Rattle.std.specs.Prelude.{◌≡◌, ℕ, zero, suc, ◌+◌, ◌-◌, ◌<◌, ◌^◌, Bool, true, cond, nat_eq, nat_lt, ◌||◌, List, [], ◌∷◌, ◌++◌, map, length, Option, Some, None, is_some}
+use Rattle.std.specs.Prelude.{◌≡◌, ℕ, zero, suc, ◌+◌, ◌-◌, ◌<◌, ◌≤◌, ◌^◌, Bool, true, cond, nat_eq, nat_lt, ◌||◌, List, [], ◌∷◌, ◌++◌, map, length, Option, Some, None, is_some}
 use Rattle.std.specs.Ordering.{nat_cmp}
 use Rattle.std.specs.FinMap as fin
 use Rattle.std.specs.FinMap.{FinMap}
@@ -12,6 +12,10 @@ use Rattle.kp_layers.specs.declared.history.Write.{Write}
 abbrev pub place_before : Bool → ℕ → ℕ
 place_before same zero = cond same 1 0
 place_before same (suc n) = suc (suc n)
+
+-- how many keys have a value, once one of them has one or has none, where before it had one or had none
+abbrev pub recounted : Bool → Bool → ℕ → ℕ
+recounted before after count = cond before (cond after count (count - 1)) (cond after (count + 1) count)
 
 module _ {V : Type 0} where
   -- the writes, as contracts see them
@@ -42,6 +46,11 @@ module _ {V : Type 0} where
   abbrev pub base_of : List (ℕ × Cell V) → FinMap nat_cmp V
   base_of [] = fin.empty
   base_of (e ∷ es) = put (base_of es) e.0 e.1.committed
+
+  -- so many keys have a value in the base map; and no more than first, the number of writes that were made on it
+  pub record IsCounted (cells : List (ℕ × Cell V)) (first count : ℕ) : Type 0 where
+    pub many : count ≡ fin.len (base_of cells)
+    pub below : count ≤ first
 
   -- each cell names the newest write of its key, and each write the one before it; no cell is empty
   pub record HasChains (cells : List (ℕ × Cell V)) (log : List (Write V)) (first : ℕ) : Type 0 where

@@ -10,11 +10,11 @@ use std::mem;
 
 /// What is known of one key: its value in the base map, and the number of its newest write.
 #[derive(Drop)]
-pub struct Cell<V> {
+pub(crate) struct Cell<V> {
     /// The value in the base map.
-    pub committed: Option<V>,
+    pub(crate) committed: Option<V>,
     /// The number of the newest write.
-    pub newest: u64,
+    pub(crate) newest: u64,
 }
 
 impl<V> Cell<V> {
@@ -27,7 +27,7 @@ impl<V> Cell<V> {
 }
 
 /// Gives the key a cell if it has none, and the number to the cell. Answers the number that it had.
-pub fn number_cell<V: Drop>(
+pub(crate) fn number_cell<V: Drop>(
     cells: &mut HashMap<u64, Cell<V>>,
     key: u64,
     number: u64,
@@ -95,7 +95,12 @@ fn remove_cell<V: Drop>(cells: &mut HashMap<u64, Cell<V>>, key: u64)
 }
 
 /// Gives the cell of the key the number. A cell that then holds nothing goes.
-pub fn renumber_cell<V: Drop>(cells: &mut HashMap<u64, Cell<V>>, key: u64, number: u64, first: u64)
+pub(crate) fn renumber_cell<V: Drop>(
+    cells: &mut HashMap<u64, Cell<V>>,
+    key: u64,
+    number: u64,
+    first: u64,
+)
     requires { IsSome (get nat_eq cells.old key) }
     ensures { Renumbers first cells.old.entries cells.new.entries key number }
 {
@@ -107,7 +112,7 @@ pub fn renumber_cell<V: Drop>(cells: &mut HashMap<u64, Cell<V>>, key: u64, numbe
 
 /// Makes the value the committed one of the key, and answers the one before. A cell that then holds
 /// nothing goes.
-pub fn commit_cell<V: Drop>(
+pub(crate) fn commit_cell<V: Drop>(
     cells: &mut HashMap<u64, Cell<V>>,
     key: u64,
     value: Option<V>,

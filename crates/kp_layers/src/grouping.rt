@@ -31,7 +31,7 @@ impl<V> Grouping<V> for Ungrouped {
 }
 
 /// The group of the value, if there is a value and it is in a group.
-pub fn group_of<V, S: Grouping<V>>(value: &Option<V>) -> Option<S::Group>
+pub(crate) fn group_of<V, S: Grouping<V>>(value: &Option<V>) -> Option<S::Group>
     ensures { result ≡ option_and_then S.group_of value.now }
 {
     match value {

@@ -1,5 +1,5 @@
 //! A map, and the writes over it in one log, the oldest first.
-ghost use Rattle.std.specs.Prelude.{Option, ◌≡◌, ℕ, ◌+◌, ◌-◌, ◌≤◌, ◌<◌, ◌++◌, ◌∷◌, [], length, OnOk, OnErr, IfOk, nat_eq, ◌^◌, Some, None, IsSome, take, drop};
+ghost use Rattle.std.specs.Prelude.{Option, true, ◌≡◌, ℕ, ◌+◌, ◌-◌, ◌≤◌, ◌<◌, ◌++◌, ◌∷◌, [], length, OnOk, OnErr, IfOk, nat_eq, ◌^◌, Some, None, IsSome, take, drop};
 ghost use Rattle.std.specs.FinMap as map;
 ghost use Rattle.std.specs.Option.{option_copied};
 ghost use Rattle.kp_layers.specs.Overlay.{put, overlay, newest_of, commit_first, empty_past};
@@ -7,12 +7,13 @@ ghost use Rattle.std.specs.List.{IsDistinct, filter, list_any};
 ghost use Rattle.std.specs.Ordering.{nat_cmp};
 ghost use Rattle.kp_layers.specs.Listed.{Lists, at_level};
 ghost use Rattle.kp_layers.specs.Used.{is_known};
+ghost use Rattle.kp_layers.specs.Chains.{recounted};
 ghost use Rattle.std.specs.BTreeMap as tree;
 ghost use Rattle.kp_layers.specs.Grouped.{is_in};
 
 use crate::NoMemory;
 use crate::cells::{Cell, commit_cell, number_cell, renumber_cell};
-use crate::grouping::{Grouping, group_of};
+use crate::grouping::{Grouping, Ungrouped, group_of};
 use crate::index::Index;
 use std::alloc::{AllocError, Global};
 use std::collections::{BTreeMap, HashMap, VecDeque};
@@ -20,7 +21,7 @@ use std::marker::Model;
 
 /// Which of its writes a map is seen under.
 #[derive(Clone, Copy, PartialEq, Eq, Debug)]
-pub enum Level {
+pub(crate) enum Level {
     /// None: the base map.
     Committed,
     /// All of them.
@@ -29,7 +30,7 @@ pub enum Level {
 
 /// A write, and the number of the write of the same key before it.
 #[derive(Drop)]
-pub struct Write<V> {
+pub(crate) struct Write<V> {
     key: u64,
     value: Option<V>,
     previous: u64,
@@ -43,11 +44,13 @@ pub struct Write<V> {
 /// Of the groups of `S`, the index has the keys whose value in the base map or one of whose writes
 /// is of the group.
 #[derive(Drop)]
-pub struct History<V, S: Grouping<V>> {
+pub(crate) struct History<V, S: Grouping<V>> {
     cells: HashMap<u64, Cell<V>>,
     log: VecDeque<Write<V>>,
     first: u64,
     index: Index<S::Group>,
+    // how many keys have a value in the base map
+    filled: u64,
 }
 
 impl<V, S: Grouping<V>> Model for History<V, S> {
@@ -57,12 +60,26 @@ impl<V, S: Grouping<V>> Model for History<V, S> {
 
     ghost coded = { past_code V.code };
 
-    ghost use Rattle.kp_layers.specs.Chains.{base_of, shown};
+    ghost use Rattle.kp_layers.specs.Chains.{base_of, shown, IsCounted};
     ghost use Rattle.kp_layers.specs.Grouped.{IsSound};
 
     ghost view = { λ h. record { base = base_of h.cells.entries; writes = shown h.log.items } };
 
-    ghost invariant = { λ h. IsSound S.Group.eq S.group_of h.index.groups.entries h.cells.entries h.log.items h.first };
+    ghost invariant = { λ h. IsSound S.Group.eq S.group_of h.index.groups.entries h.cells.entries h.log.items h.first × IsCounted h.cells.entries h.first h.filled };
+}
+
+// How many keys have a value, once one of them has one or has none, where before it had one or had
+// none.
+fn recounted(count: u64, before: bool, after: bool) -> u64
+    requires room { count < 2 ^ 64 - 1 }
+    requires there { before ≡ true → 1 ≤ count }
+    ensures { result ≡ recounted before after count }
+{
+    match (before, after) {
+        (false, true) => count + 1,
+        (true, false) => count - 1,
+        _ => count,
+    }
 }
 
 // The keys in their order.
@@ -75,7 +92,7 @@ fn in_order(mut keys: Vec<u64>) -> Vec<u64>
 
 impl<V, S: Grouping<V>> History<V, S> {
     /// An empty map with no writes.
-    pub fn new(alloc: Global) -> Self
+    pub(crate) fn new(alloc: Global) -> Self
         ensures { result ≡ empty_past }
     {
         History {
@@ -83,25 +100,33 @@ impl<V, S: Grouping<V>> History<V, S> {
             log: VecDeque::new(alloc),
             first: 0,
             index: Index::new(alloc),
+            filled: 0,
         }
     }
 
     /// How many writes there are.
-    pub fn len(&self) -> usize
+    pub(crate) fn len(&self) -> usize
         ensures { result ≡ length self.now.writes }
     {
         self.log.len()
     }
 
+    /// How many keys have a value in the base map.
+    pub(crate) fn filled(&self) -> u64
+        ensures { result ≡ map.len self.now.base }
+    {
+        self.filled
+    }
+
     /// Whether the key has a value in the base map or a write.
-    pub fn is_known(&self, key: u64) -> bool
+    pub(crate) fn is_known(&self, key: u64) -> bool
         ensures { result ≡ is_known self.now key }
     {
         self.cells.contains_key(&key)
     }
 
     /// The value of the key in the base map.
-    pub fn committed(&self, key: u64) -> Option<&V>
+    pub(crate) fn committed(&self, key: u64) -> Option<&V>
         ensures { option_copied result ≡ map.get self.now.base key }
     {
         match self.cells.get(&key) {
@@ -111,7 +136,7 @@ impl<V, S: Grouping<V>> History<V, S> {
     }
 
     /// The value of the key under all writes.
-    pub fn latest(&self, key: u64) -> Option<&V>
+    pub(crate) fn latest(&self, key: u64) -> Option<&V>
         ensures { option_copied result ≡ map.get (newest_of self.now) key }
     {
         match self.cells.get(&key) {
@@ -146,7 +171,7 @@ impl<V, S: Grouping<V>> History<V, S> {
 
     /// The keys that have a value at the level, ascending. Costs the cells and the sorting of the
     /// keys.
-    pub fn keys(&self, alloc: Global, level: Level) -> Result<Vec<u64>, NoMemory>
+    pub(crate) fn keys(&self, alloc: Global, level: Level) -> Result<Vec<u64>, NoMemory>
         ensures { IfOk result (λ ks. ks.items ≡ map.keys (at_level level self.now)) }
     {
         let mut keys = Vec::new(alloc);
@@ -193,7 +218,7 @@ impl<V, S: Grouping<V>> History<V, S> {
 
     /// The keys that have a value of the group at the level, ascending. Costs the keys that the
     /// index has of the group.
-    pub fn keys_in(
+    pub(crate) fn keys_in(
         &self,
         alloc: Global,
         level: Level,
@@ -222,7 +247,7 @@ impl<V, S: Grouping<V>> History<V, S> {
 
     /// Whether a key has a value of the group at the level. Costs at most the keys that the index
     /// has of the group.
-    pub fn any_in(&self, level: Level, group: S::Group) -> bool
+    pub(crate) fn any_in(&self, level: Level, group: S::Group) -> bool
         ensures { result ≡ list_any (is_in S.Group.eq S.group_of (at_level level self.now) group) (map.keys (at_level level self.now)) }
     {
         match self.index.counts(group) {
@@ -234,7 +259,7 @@ impl<V, S: Grouping<V>> History<V, S> {
 
 impl<V: Drop, S: Grouping<V>> History<V, S> {
     /// Adds a write behind the others. After an error nothing has changed.
-    pub fn push(&mut self, key: u64, value: Option<V>) -> Result<(), NoMemory>
+    pub(crate) fn push(&mut self, key: u64, value: Option<V>) -> Result<(), NoMemory>
         ensures ok { OnOk result (self.new ≡ record self.old { writes = self.old.writes ++ (key, value) ∷ [] }) }
         ensures err { OnErr result (self.new ≡ self.old) }
         ensures small { OnOk result (length self.new.writes < 2 ^ 64) }
@@ -261,7 +286,7 @@ impl<V: Drop, S: Grouping<V>> History<V, S> {
     }
 
     /// Takes back the last write.
-    pub fn undo_one(&mut self)
+    pub(crate) fn undo_one(&mut self)
         requires { 0 < length self.old.writes }
         ensures { self.new ≡ record self.old { writes = take (length self.old.writes - 1) self.old.writes } }
     {
@@ -279,7 +304,7 @@ impl<V: Drop, S: Grouping<V>> History<V, S> {
     }
 
     /// Makes the first write on the base.
-    pub fn commit_one(&mut self)
+    pub(crate) fn commit_one(&mut self)
         requires { 0 < length self.old.writes }
         ensures { self.new ≡ commit_first self.old.base self.old.writes }
     {
@@ -290,7 +315,10 @@ impl<V: Drop, S: Grouping<V>> History<V, S> {
                 previous: _,
             } = write;
             self.first += 1;
+            let given = value.is_some();
             let replaced = commit_cell(&mut self.cells, key, value, self.first);
+            let had = replaced.is_some();
+            self.filled = recounted(self.filled, had, given);
             let group = group_of::<V, S>(&replaced);
             drop(replaced);
             self.index.take(group, key);
@@ -298,7 +326,7 @@ impl<V: Drop, S: Grouping<V>> History<V, S> {
     }
 
     /// Makes the first `count` writes on the base, in their order.
-    pub fn commit(&mut self, count: usize)
+    pub(crate) fn commit(&mut self, count: usize)
         requires { count ≤ length self.old.writes }
         ensures { self.new ≡ record { base = overlay self.old.base (take count self.old.writes); writes = drop count self.old.writes } }
     {
@@ -308,12 +336,23 @@ impl<V: Drop, S: Grouping<V>> History<V, S> {
     }
 
     /// Keeps the first `keep` writes.
-    pub fn truncate(&mut self, keep: usize)
+    pub(crate) fn truncate(&mut self, keep: usize)
         ensures { self.new ≡ record self.old { writes = take keep self.old.writes } }
     {
         let extra = self.len().saturating_sub(keep);
         'writes: for _i in 0..extra {
             self.undo_one();
         }
+    }
+}
+
+impl<V: Drop> History<V, Ungrouped> {
+    /// Gives a key that has a value in the base map another one.
+    pub(crate) fn replace(&mut self, key: u64, value: V)
+        requires { IsSome (map.get self.old.base key) }
+        ensures { self.new ≡ record self.old { base = map.insert self.old.base key value } }
+    {
+        let replaced = commit_cell(&mut self.cells, key, Some(value), self.first);
+        drop(replaced);
     }
 }

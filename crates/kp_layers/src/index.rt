@@ -14,7 +14,7 @@ use std::hash::Hash;
 /// The keys of each group, each with how many values it has there. A key without a value in the
 /// group isn't among them, and a group without a key has no entry.
 #[derive(Drop)]
-pub struct Index<G: Copy + Eq + Hash> {
+pub(crate) struct Index<G: Copy + Eq + Hash> {
     groups: HashMap<G, BTreeMap<u64, u64>>,
     alloc: Global,
 }
@@ -126,7 +126,7 @@ fn lower_in<G: Copy + Eq + Hash>(
 
 impl<G: Copy + Eq + Hash> Index<G> {
     /// The index of no values. Its growth takes memory from `alloc`.
-    pub fn new(alloc: Global) -> Self
+    pub(crate) fn new(alloc: Global) -> Self
         ensures none { (g : G) (k : ℕ) → count_at G.eq result.groups.entries g k ≡ None }
         ensures filled { IsFilled G.eq result.groups.entries }
     {
@@ -138,7 +138,7 @@ impl<G: Copy + Eq + Hash> Index<G> {
 
     /// Adds a value of the key to the group, if there is a group. After an error nothing has
     /// changed.
-    pub fn add(&mut self, group: Option<G>, key: u64) -> Result<(), NoMemory>
+    pub(crate) fn add(&mut self, group: Option<G>, key: u64) -> Result<(), NoMemory>
         ensures ok { OnOk result (Adds G.eq self.old.groups.entries self.new.groups.entries group key) }
         ensures err { OnErr result (Keeps G.eq self.old.groups.entries self.new.groups.entries) }
     {
@@ -149,7 +149,7 @@ impl<G: Copy + Eq + Hash> Index<G> {
     }
 
     /// Takes a value of the key from the group, if there is a group.
-    pub fn take(&mut self, group: Option<G>, key: u64)
+    pub(crate) fn take(&mut self, group: Option<G>, key: u64)
         ensures { Takes G.eq self.old.groups.entries self.new.groups.entries group key }
     {
         if let Some(group) = group {
@@ -161,7 +161,7 @@ impl<G: Copy + Eq + Hash> Index<G> {
     }
 
     /// The keys of the group, with their counts.
-    pub fn counts(&self, group: G) -> Option<&BTreeMap<u64, u64>>
+    pub(crate) fn counts(&self, group: G) -> Option<&BTreeMap<u64, u64>>
         ensures { option_copied result ≡ hash.get G.eq self.now.groups group }
     {
         self.groups.get(&group)

@@ -57,14 +57,14 @@ impl<V, S: Grouping<V>> Model for GroupedLayers<V, S> {
 
 impl<V, S: Grouping<V>> GroupedLayers<V, S> {
     /// An empty map with no layers. Its later growth takes memory from `alloc`.
-    pub fn new(alloc: Global) -> Result<Self, NoMemory>
-        ensures { IfOk result (λ layers. layers ≡ empty_layering) }
+    pub fn new(alloc: Global) -> Self
+        ensures { result ≡ empty_layering }
     {
-        Ok(GroupedLayers {
+        GroupedLayers {
             history: History::new(alloc),
             sealed: VecDeque::new(alloc),
             pending: None,
-        })
+        }
     }
 
     /// Opens a layer with no writes, and makes the room for its sealing. After an error nothing
@@ -95,6 +95,13 @@ impl<V, S: Grouping<V>> GroupedLayers<V, S> {
         ensures { result ≡ is_used self.now key }
     {
         self.history.is_known(key)
+    }
+
+    /// How many keys have a value in the base. Costs the same however many there are.
+    pub fn committed_len(&self) -> u64
+        ensures { result ≡ map.len self.now.base }
+    {
+        self.history.filled()
     }
 
     /// The value of the key in the base map, below all layers.
@@ -238,5 +245,12 @@ impl<V: Drop, S: Grouping<V>> GroupedLayers<V, S> {
     }
 }
 
-#[cfg(test)]
-mod tests;
+impl<V: Drop> GroupedLayers<V, Ungrouped> {
+    /// Gives a key that has a value in the base map another one. Takes no memory.
+    pub fn replace_base(&mut self, key: u64, value: V)
+        requires { IsSome (map.get self.old.base key) }
+        ensures { self.new ≡ record self.old { base = map.insert self.old.base key value } }
+    {
+        self.history.replace(key, value);
+    }
+}

@@ -2,14 +2,15 @@
 //! map or the last is taken away, and neither takes memory.
 #![tactic(auto)]
 
-pub mod cells;
-pub mod grouping;
-pub mod history;
-pub mod index;
-pub mod laws;
-pub mod layers;
+mod cells;
+mod grouping;
+mod history;
+mod index;
+mod laws;
+mod layers;
 
 pub use grouping::{Grouping, Ungrouped};
+pub use laws::{keys_come_with_their_writes, keys_go_with_their_writes};
 pub use layers::{GroupedLayers, Layers};
 
 /// No memory was found: std's own error of an allocation.

@@ -14,3 +14,7 @@ pub mod Store
 pub mod Codes
 pub mod Poured
 pub mod Touched
+pub mod Limits
+pub mod Majority
+pub mod Reads
+pub mod Taken

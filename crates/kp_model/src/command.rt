@@ -11,7 +11,7 @@ pub type Ops = Items<Op>;
 
 /// A command of a session. Versions and flags are in two's complement: version 4,294,967,295 is -1 and
 /// matches every version.
-#[derive(Debug, Drop)]
+#[derive(Drop)]
 pub enum Cmd {
     /// Makes a node. Flag 1 makes the session its owner, flag 2 adds a number to the path.
     /// `stat` tells whether the reply has the node's numbers beside its path.
@@ -62,7 +62,7 @@ pub enum Cmd {
 }
 
 /// A command that a multi may hold, with the fields that `Cmd` gives it.
-#[derive(Debug, Drop)]
+#[derive(Drop)]
 pub enum Op {
     Create {
         path: Text,

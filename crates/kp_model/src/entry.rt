@@ -11,7 +11,7 @@ use std::alloc::Global;
 use std::marker::Model;
 
 /// What a log entry asks for.
-#[derive(Debug, Drop)]
+#[derive(Drop)]
 pub enum Body {
     /// Changes nothing but the applied index, as every entry does.
     Noop,
@@ -42,7 +42,7 @@ pub enum Body {
 
 /// An element of the log. Its index, which is its zxid, is its place in the log, counted from 1.
 /// Its numbers are within their limits, and its texts, data and lists fit length fields of 32 bits.
-#[derive(Debug, Drop)]
+#[derive(Drop)]
 pub struct Entry {
     /// The term of the leader that appended it.
     pub term: u64,

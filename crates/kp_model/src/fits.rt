@@ -6,18 +6,16 @@ ghost use Rattle.kp_model.specs.Grammar.{is_text, fits_acl, fits_acls, fits_op, 
 
 use crate::command::{Cmd, Op, Ops};
 use crate::entry::Body;
+use crate::limits::LONGEST_FIELD;
 use crate::node::{Acl, Acls};
 use crate::text::{Bytes, Text};
-
-// the greatest length that a field of 32 bits holds
-const MOST: usize = 4_294_967_295;
 
 impl Text {
     /// Whether its length fits a field of 32 bits.
     pub fn fits(&self) -> bool
         ensures { result ≡ is_text self.now }
     {
-        self.len() <= MOST
+        self.len() <= LONGEST_FIELD
     }
 }
 
@@ -26,7 +24,7 @@ impl Bytes {
     pub fn fits(&self) -> bool
         ensures { result ≡ is_text self.now }
     {
-        self.len() <= MOST
+        self.len() <= LONGEST_FIELD
     }
 }
 
@@ -107,7 +105,7 @@ fn is_whole(passwd: &[u8]) -> bool
 fn acls_fit(acl: &Acls) -> bool
     ensures { result ≡ fits_acls acl.now }
 {
-    acl.len() <= MOST && each_acl_fits(acl.as_slice())
+    acl.len() <= LONGEST_FIELD && each_acl_fits(acl.as_slice())
 }
 
 fn each_acl_fits(acl: &[Acl]) -> bool
@@ -120,7 +118,7 @@ fn each_acl_fits(acl: &[Acl]) -> bool
 fn ops_fit(ops: &Ops) -> bool
     ensures { result ≡ fits_cmd (cmd.Multi ops.now) }
 {
-    ops.len() <= MOST && each_op_fits(ops.as_slice())
+    ops.len() <= LONGEST_FIELD && each_op_fits(ops.as_slice())
 }
 
 fn each_op_fits(ops: &[Op]) -> bool

@@ -2,8 +2,9 @@ ghost use Rattle.std.specs.Prelude.{◌≡◌, IfOk};
 
 use std::alloc::{AllocError, AllocFailed, Global};
 
-/// Memory ran out, or a text or a list is longer than its length field can tell. Nothing else can make a call
-/// answer this, and what the call was made on is as it was.
+/// Memory ran out. A call that writes a value down answers this too where the value has no spelling: a text, data
+/// or a list is longer than its length field can tell, or a number is outside its range. So does a call that gives
+/// out numbers where none is left. What the call was made on is as it was, unless the call says otherwise.
 #[derive(Clone, Copy, Debug, PartialEq, Eq)]
 pub struct NoMemory;
 

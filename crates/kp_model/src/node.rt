@@ -1,4 +1,5 @@
 ghost use Rattle.std.specs.Prelude.{◌≡◌, IfOk};
+ghost use Rattle.kp_model.specs.State.{open_acl};
 
 use crate::items::Items;
 use crate::memory::{Duplicate, NoMemory};
@@ -9,7 +10,7 @@ use std::alloc::Global;
 pub type Acls = Items<Acl>;
 
 /// One line of an access list: who has which rights.
-#[derive(Debug, Drop)]
+#[derive(Drop)]
 pub struct Acl {
     /// The sum of READ 1, WRITE 2, CREATE 4, DELETE 8 and ADMIN 16.
     pub perms: u32,
@@ -20,7 +21,7 @@ pub struct Acl {
 }
 
 /// The numbers that are shown of a node. Indexes are those of log entries, times are milliseconds.
-#[derive(Clone, Copy, Debug, PartialEq, Eq)]
+#[derive(Clone, Copy, PartialEq, Eq)]
 pub struct Meta {
     /// The index of the entry that made the node.
     pub czxid: u64,
@@ -49,7 +50,7 @@ pub struct Meta {
 }
 
 /// A node of the tree. What its data's length and its children tell is in `Meta` alone.
-#[derive(Debug, Drop)]
+#[derive(Drop)]
 pub struct Node {
     pub bytes: Bytes,
     pub acl: Acls,
@@ -66,10 +67,25 @@ pub struct Node {
 }
 
 /// What is seen of a node: its data and its numbers.
-#[derive(Debug, Drop)]
+#[derive(Drop)]
 pub struct Seen {
     pub bytes: Bytes,
     pub meta: Meta,
+}
+
+impl Items<Acl> {
+    /// The access list that gives every right to everyone.
+    pub fn everyone(alloc: Global) -> Result<Acls, NoMemory>
+        ensures { IfOk result (λ made. made ≡ open_acl) }
+    {
+        let mut acl = Items::new(alloc);
+        acl.push(Acl {
+            perms: 31,
+            scheme: Text::from_str(alloc, "world")?,
+            id: Text::from_str(alloc, "anyone")?,
+        })?;
+        Ok(acl)
+    }
 }
 
 impl Acl {

@@ -6,7 +6,7 @@ use crate::text::{Bytes, Paths, Text};
 use std::alloc::Global;
 
 /// A question about a node of the committed tree.
-#[derive(Debug, Drop)]
+#[derive(Drop)]
 pub enum ReadCmd {
     Exists { path: Text },
     GetData { path: Text },
@@ -15,7 +15,7 @@ pub enum ReadCmd {
 }
 
 /// The answer to a `ReadCmd`.
-#[derive(Debug, Drop)]
+#[derive(Drop)]
 pub enum ReadReply {
     /// One of the codes in `errors`.
     Err(i32),
@@ -26,7 +26,7 @@ pub enum ReadReply {
 }
 
 /// What a member of a cluster is at the moment.
-#[derive(Clone, Copy, Debug, PartialEq, Eq)]
+#[derive(Clone, Copy, PartialEq, Eq)]
 pub enum Role {
     Follower,
     Candidate,

@@ -10,7 +10,7 @@ use std::alloc::Global;
 pub type Events = Items<Event>;
 
 /// What an entry is answered.
-#[derive(Debug, Drop)]
+#[derive(Drop)]
 pub enum Reply {
     /// The entry came too late or twice, and changed nothing.
     Stale,
@@ -35,7 +35,7 @@ pub enum Reply {
 }
 
 /// What an operation of a multi is answered.
-#[derive(Debug, Drop)]
+#[derive(Drop)]
 pub enum OpReply {
     Done,
     Path(Text),
@@ -44,7 +44,7 @@ pub enum OpReply {
 }
 
 /// What watches fire on.
-#[derive(Debug, Drop)]
+#[derive(Drop)]
 pub enum Event {
     Created(Text),
     Deleted(Text),
@@ -53,7 +53,7 @@ pub enum Event {
 }
 
 /// An entry that was taken into the committed tree: its index, its reply and its events.
-#[derive(Debug, Drop)]
+#[derive(Drop)]
 pub struct Committed {
     pub index: u64,
     pub reply: Reply,

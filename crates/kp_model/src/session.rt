@@ -5,7 +5,7 @@ use crate::text::Paths;
 use std::alloc::Global;
 
 /// Where a session was opened or taken over: a connection of one run of one server. It is never used twice.
-#[derive(Clone, Copy, Debug, PartialEq, Eq)]
+#[derive(Clone, Copy, PartialEq, Eq)]
 pub struct Origin {
     /// The server's number.
     pub node: u8,
@@ -16,7 +16,7 @@ pub struct Origin {
 }
 
 /// A client's session.
-#[derive(Debug, Drop)]
+#[derive(Drop)]
 pub struct Session {
     /// How long it lives unheard, in milliseconds.
     pub timeout: u32,

@@ -10,7 +10,7 @@ use std::marker::Model;
 pub type Paths = Items<Text>;
 
 /// A text in UTF-8, which contracts see as the list of its bytes. Texts are ordered by their bytes.
-#[derive(Debug, Drop)]
+#[derive(Drop)]
 pub struct Text {
     inner: String,
 }
@@ -80,7 +80,7 @@ impl Duplicate for Text {
 }
 
 /// Bytes, which contracts see as their list.
-#[derive(Debug, Drop)]
+#[derive(Drop)]
 pub struct Bytes {
     inner: Vec<u8>,
 }

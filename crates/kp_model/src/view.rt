@@ -62,29 +62,29 @@ pub trait Fill {
     /// The state that the value stands for.
     ghost state: { Self → State };
 
-    /// Whether it may be poured into. Each call keeps this.
-    ghost takes: { Self → Bool };
+    /// That it may be poured into. Each call keeps this.
+    ghost takes: { Self → Type 0 };
 
     /// Sets the applied index and the next session number.
     fn start(&mut self, applied: u64, next_session: u64)
-        requires may { IsTrue (takes self.old) }
+        requires may { takes self.old }
         requires applied { IsTrue (is_number applied) }
         requires next { IsTrue (is_number next_session) }
         ensures set { state self.new ≡ started (state self.old) applied next_session }
-        ensures may { IsTrue (takes self.new) };
+        ensures may { takes self.new };
 
     /// Sets a session, in place of one that has its number.
     fn session(&mut self, id: u64, session: &Session) -> Result<(), NoMemory>
-        requires may { IsTrue (takes self.old) }
+        requires may { takes self.old }
         ensures set { IfOk result (λ _. state self.new ≡ with_session (state self.old) id session.now) }
         ensures err { OnErr result (self.new ≡ self.old) }
-        ensures may { IsTrue (takes self.new) };
+        ensures may { takes self.new };
 
     /// Sets a node, in place of one that has its path. What `meta` says of the length and of the children is not looked at.
     fn node(&mut self, path: &str, content: &[u8], acl: &[Acl], meta: &Meta) -> Result<(), NoMemory>
-        requires may { IsTrue (takes self.old) }
+        requires may { takes self.old }
         requires path { IsTrue (is_well_formed path.now) }
         ensures set { IfOk result (λ _. state self.new ≡ with_node (state self.old) path.now (node_of content.now acl.now meta.now)) }
         ensures err { OnErr result (self.new ≡ self.old) }
-        ensures may { IsTrue (takes self.new) };
+        ensures may { takes self.new };
 }

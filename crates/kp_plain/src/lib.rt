@@ -8,8 +8,6 @@ mod sessions;
 mod shown;
 mod sorted;
 mod store;
-#[cfg(test)]
-mod tests;
 mod tree;
 
 pub use store::PlainStore;

@@ -6,11 +6,9 @@ ghost use Rattle.kp_model.specs.State.{is_child as child, meta_of};
 ghost use Rattle.kp_plain.specs.Beside.{AreOrdered, child_count, shown_again, both_again};
 
 use crate::sorted::{find_in, put_in, remove_from};
+use kp_model::limits::LAST_COUNT;
 use kp_model::{Meta, NoMemory, Node, Text};
 use std::alloc::Global;
-
-/// As many children as are shown.
-const MOST: usize = 2147483647;
 
 /// The parent of a path; the root is its own.
 pub fn parent(path: &str) -> &str
@@ -44,7 +42,7 @@ fn count_in(items: &[(Text, Node)], path: &str) -> usize
 fn shown_count(children: usize) -> u32
     ensures { result ≡ min children 2147483647 }
 {
-    children.min(MOST) as u32
+    children.min(LAST_COUNT as usize) as u32
 }
 
 // The numbers that are shown of a node with so many children.

@@ -15,7 +15,7 @@ use crate::pick::Pick;
 use crate::sessions::Sessions;
 use kp_cells::{Change, NodeValue};
 use kp_model::{
-    Acl, Bytes, Entry, Items, Meta, NoMemory, Node, Origin, Paths, Seen, Session, Text, View,
+    Acl, Acls, Bytes, Entry, Meta, NoMemory, Node, Origin, Paths, Seen, Session, Text, View,
 };
 use kp_prep::{Decided, Prepared, decide};
 use std::alloc::Global;
@@ -114,15 +114,9 @@ fn names_of(alloc: Global, paths: &Paths) -> Result<Paths, NoMemory>
 fn blank_root(alloc: Global) -> Result<Node, NoMemory>
     ensures { IfOk result (λ node. node ≡ blank_node) }
 {
-    let mut acl = Items::new(alloc);
-    acl.push(Acl {
-        perms: 31,
-        scheme: Text::from_str(alloc, "world")?,
-        id: Text::from_str(alloc, "anyone")?,
-    })?;
     Ok(Node {
         bytes: Bytes::new(alloc),
-        acl,
+        acl: Acls::everyone(alloc)?,
         czxid: 0,
         mzxid: 0,
         pzxid: 0,

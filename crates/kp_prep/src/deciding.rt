@@ -19,7 +19,7 @@ use kp_model::{Acl, Acls, Bytes, Entry, Meta, NoMemory, Session, Text, View};
 use std::alloc::Global;
 
 /// What an entry is answered, and what it changes.
-#[derive(Debug, Drop)]
+#[derive(Drop)]
 pub struct Decided {
     pub prepared: Prepared,
     /// The changes in the order in which they are set.

@@ -6,8 +6,6 @@ mod entry;
 mod ledger;
 mod preparing;
 mod stage;
-#[cfg(test)]
-mod tests;
 
 pub use deciding::{Decided, decide};
 pub use kp_act::Prepared;

@@ -1,6 +1,7 @@
 -- Runs of spans: where each lies, and what stays of its bytes when the window changes.
-use Rattle.std.proofs.Common.{◌≡◌, ℕ, zero, suc, ◌+◌, ◌-◌, ◌≤◌, ◌<◌, List, [], ◌∷◌, ◌++◌, length, take, drop, map, refl, sym, ◌∙◌, ap, subst, arith, Option, Some, None, slice_get}
-use Rattle.std.proofs.lemmas.List.{drop-drop, drop-take, take-append-le}
+use Rattle.std.proofs.Common.{◌≡◌, ℕ, zero, suc, ◌+◌, ◌-◌, ◌≤◌, List, [], ◌∷◌, ◌++◌, length, take, drop, map, refl, sym, ◌∙◌, ap, subst, arith, Some, slice_get}
+use Rattle.std.specs.List.{flat_map}
+use Rattle.std.proofs.lemmas.List.{drop-drop, drop-take, drop_all, take-append-drop}
 use Rattle.std.proofs.Math.Seq.{take-append_seam, take-take, drop-append_seam, take-length}
 use Rattle.kp_region.specs.declared.region.Span.{Span}
 use Rattle.kp_region.specs.Spans.{bytes_of, IsRun}
@@ -71,3 +72,17 @@ text_last a s bytes more p q =
 -- a run, at equal ends and of an equal list
 pub run_along : (a b : ℕ) (ss ts : List Span) (e f : ℕ) → a ≡ b → ss ≡ ts → e ≡ f → IsRun a ss e → IsRun b ts f
 run_along a b ss ts e f p q r h = subst (λ (x : ℕ). IsRun x ts f) p (subst (λ (x : List Span). IsRun a x f) q (subst (λ (x : ℕ). IsRun a ss x) r h))
+
+-- the strings of a run, one behind the other, are the bytes that it covers
+pub joined : (start a : ℕ) (ss : List Span) (e : ℕ) (bytes : List ℕ) → start ≤ a → e ≡ start + length bytes → IsRun a ss e → flat_map (λ s. s) (map (bytes_of start bytes) ss) ≡ drop (a - start) bytes
+joined start a [] e bytes le end h =
+    let all : length bytes ≤ a - start = omega (arith, end, h) in
+    sym (drop_all (a - start) bytes all)
+joined start a (s ∷ ss) e bytes le end h =
+    let at : s.start - start ≡ a - start = ap (λ x. x - start) h.0 in
+    let later : start ≤ a + s.len = omega (arith, le) in
+    let on : (a - start) + s.len ≡ (a + s.len) - start = omega (arith, le) in
+    (λ i. take s.len (drop (at i) bytes) ++ joined start (a + s.len) ss e bytes later end h.1 i)
+    ∙ ap (λ n. take s.len (drop (a - start) bytes) ++ drop n bytes) (sym on)
+    ∙ ap (λ l. take s.len (drop (a - start) bytes) ++ l) (sym (drop-drop s.len (a - start) bytes) ∙ λ i. drop s.len (drop (a - start) bytes))
+    ∙ take-append-drop s.len (drop (a - start) bytes)

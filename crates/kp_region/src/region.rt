@@ -1,11 +1,12 @@
 //! The region.
 
-ghost use Rattle.std.specs.Prelude.{◌≡◌, ℕ, ◌+◌, ◌^◌, ◌<◌, ◌≤◌, ◌↔◌, length, max, option_map, slice_get, IsTrue, IsOk, OnOk, OnErr};
+ghost use Rattle.std.specs.Prelude.{◌≡◌, ℕ, [], ◌+◌, ◌^◌, ◌<◌, ◌≤◌, ◌↔◌, length, max, option_map, slice_get, IsTrue, IsOk, OnOk, OnErr};
+ghost use Rattle.std.specs.List.{flat_map};
 ghost use Rattle.kp_region.specs.Marked.{no_strings, next_mark, string_at, with_string, without_first, without_last};
 
-use crate::memory::NoMemory;
+use crate::NoMemory;
 use crate::window::Window;
-use std::alloc::Global;
+use std::alloc::{AllocError, Global};
 use std::collections::VecDeque;
 use std::marker::Model;
 
@@ -13,7 +14,7 @@ use std::marker::Model;
 const LIMIT: u64 = 1 << 62;
 
 /// Where a string lies: the running place of its first byte, and its length in bytes.
-#[derive(Clone, Copy, Debug)]
+#[derive(Clone, Copy)]
 pub(crate) struct Span {
     start: u64,
     len: usize,
@@ -74,10 +75,38 @@ impl Region {
         self.first
     }
 
-    /// Makes room for at least `records` strings of together at least `bytes` bytes. A number that is
-    /// below the room there is leaves that room, and where both are, the answer is Ok. Answers `NoMemory`, and changes nothing, where memory
-    /// runs out, or where the last mark and the spare records together, or the bytes ever pushed and
-    /// the spare bytes together, would pass 2^62.
+    /// How many strings there are.
+    pub fn len(&self) -> usize
+        ensures { result ≡ length self.now.strings }
+    {
+        self.spans.len()
+    }
+
+    /// Whether there is no string.
+    pub fn is_empty(&self) -> bool
+        ensures { IsTrue result ↔ (self.now.strings ≡ []) }
+    {
+        self.spans.is_empty()
+    }
+
+    /// For how many more strings there is room.
+    pub fn spare_records(&self) -> usize
+        ensures { result ≡ self.now.spare_records }
+    {
+        self.spare_records
+    }
+
+    /// For how many more bytes of strings there is room.
+    pub fn spare_bytes(&self) -> usize
+        ensures { result ≡ self.now.spare_bytes }
+    {
+        self.spare_bytes
+    }
+
+    /// Makes room for at least `records` strings of together at least `bytes` bytes. A number below
+    /// the room that there is leaves that room, and where both numbers are, the answer is Ok. Answers
+    /// `NoMemory`, and changes nothing, where memory runs out, or where the last mark and the spare
+    /// records together, or the bytes ever pushed and the spare bytes together, would pass 2^62.
     pub fn reserve(&mut self, records: usize, bytes: usize) -> Result<(), NoMemory>
         ensures ok { OnOk result (self.new ≡ record self.old { spare_records = max self.old.spare_records records; spare_bytes = max self.old.spare_bytes bytes }) }
         ensures marks { OnOk result (next_mark self.new + self.new.spare_records ≤ 2 ^ 62 + 1) }
@@ -88,10 +117,10 @@ impl Region {
         let bytes = self.spare_bytes.max(bytes);
         let last = self.first - 1 + self.spans.len() as u64;
         if LIMIT - last < records as u64 {
-            return Err(NoMemory);
+            return Err(AllocError);
         }
         if LIMIT - self.window.end() < bytes as u64 {
-            return Err(NoMemory);
+            return Err(AllocError);
         }
         self.spans.reserve(records)?;
         self.window.reserve(bytes)?;
@@ -162,6 +191,15 @@ impl Region {
             None => None,
             Some(span) => Some(self.window.slice(span.start, span.len)),
         }
+    }
+
+    /// All strings, one behind the other, with the memory in which they lie. Takes none, and moves no byte unless
+    /// strings left at the front.
+    pub fn into_bytes(self) -> Vec<u8>
+        ensures { result.items ≡ flat_map (λ s. s) self.strings }
+    {
+        let Region { window, .. } = self;
+        window.into_bytes()
     }
 }
 

@@ -4,8 +4,8 @@ ghost use Rattle.std.specs.Prelude.{◌≡◌, ◌+◌, ◌-◌, ◌*◌, ◌^�
 ghost use Rattle.std.specs.Vec.{vec_len, vec_capacity};
 ghost use Rattle.kp_region.specs.Stretch.{end_of};
 
-use crate::memory::NoMemory;
-use std::alloc::Global;
+use crate::NoMemory;
+use std::alloc::{AllocError, Global};
 use std::marker::Model;
 
 /// The bytes of a stream from one place to another, and room for more. Every byte has a running place,
@@ -110,6 +110,21 @@ impl Window {
         let from = (start - self.base) as usize;
         &self.buffer[from..from + len]
     }
+
+    /// The bytes, with their memory.
+    pub(crate) fn into_bytes(self) -> Vec<u8>
+        ensures { result.items ≡ self.bytes }
+    {
+        let Window {
+            mut buffer,
+            dead,
+            ..
+        } = self;
+        if 0 < dead {
+            take_away(&mut buffer, dead);
+        }
+        buffer
+    }
 }
 
 // Takes away the first `dead` bytes. The others move to the front, and the capacity stays.
@@ -141,7 +156,7 @@ fn make_room(buffer: &mut Vec<u8>, extra: usize) -> Result<(), NoMemory>
 {
     let len = buffer.len();
     if usize::MAX / 4 < len || usize::MAX / 4 < extra {
-        return Err(NoMemory);
+        return Err(AllocError);
     }
     buffer.reserve_exact(len + 2 * extra)?;
     Ok(())

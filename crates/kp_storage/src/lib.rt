@@ -3,7 +3,5 @@
 #![tactic(auto)]
 
 mod storage;
-#[cfg(test)]
-mod tests;
 
 pub use storage::Storage;

@@ -1,4 +1,4 @@
-ghost use Rattle.std.specs.Prelude.{◌≡◌, ℕ, ◌<◌, ◌≤◌, ◌^◌, ◌-◌, IsTrue, length, take, slice_get, Some, IfOk, OnOk, OnErr};
+ghost use Rattle.std.specs.Prelude.{◌≡◌, ◌==◌, not, ℕ, ◌<◌, ◌≤◌, ◌^◌, ◌-◌, IsTrue, length, take, slice_get, Some, IfOk, OnOk, OnErr};
 ghost use Rattle.std.specs.Option.{option_copied};
 ghost use Rattle.std.specs.FinMap as map;
 ghost use Rattle.kp_model.specs.Good.{IsSound};
@@ -7,6 +7,7 @@ ghost use Rattle.kp_model.specs.State.{meta_at, bytes_at};
 ghost use Rattle.kp_model.specs.LogEntry.{LogEntry};
 ghost use Rattle.kp_model.specs.Touched.{touched};
 ghost use Rattle.kp_model.specs.Store.{after, latest as latest_of, last as last_of, empty, with_entry, kept as kept_of, truncated, commit_answer, commit_leaves};
+ghost use Rattle.kp_cells.specs.Mapped.{kept as those};
 ghost use Rattle.kp_cells.specs.Parts.{parts_of, FitTogether};
 ghost use Rattle.kp_cells.specs.Overlays.{IsClosed, depth, committed_parts, latest_parts, committed_state, latest_state};
 ghost use Rattle.kp_prep.specs.Touching.{AreWithin, layer_keys};
@@ -144,6 +145,13 @@ impl Storage {
         self.answers.front()
     }
 
+    /// Lends the entry that `commit` would take.
+    pub fn next_entry(&self) -> Option<&Entry>
+        ensures { option_copied result ≡ slice_get self.now.unapplied 0 }
+    {
+        self.entries.front()
+    }
+
     // Forgets the last entry, where there is one.
     fn forget_last(&mut self)
         ensures { self.new ≡ record self.old { unapplied = take (length self.old.unapplied - 1) self.old.unapplied } }
@@ -222,6 +230,28 @@ impl Storage {
         ensures { option_copied result ≡ map.get self.now.state.sessions id }
     {
         self.cells.committed_session(id)
+    }
+
+    /// How many nodes the committed state has. Costs the same however many there are, as the two
+    /// counts below do.
+    pub fn node_count(&self) -> u64
+        ensures { result ≡ map.len self.now.state.nodes }
+    {
+        self.cells.node_count()
+    }
+
+    /// How many nodes of the committed state have an owner.
+    pub fn owned_count(&self) -> u64
+        ensures { result ≡ map.len (those (λ _ n. not (n.owner == 0)) self.now.state.nodes) }
+    {
+        self.cells.owned_count()
+    }
+
+    /// How many sessions the committed state has.
+    pub fn session_count(&self) -> u64
+        ensures { result ≡ map.len self.now.state.sessions }
+    {
+        self.cells.session_count()
     }
 
     /// The uncommitted state: the replay of the unapplied entries on the committed one.

@@ -2,7 +2,8 @@ ghost use Rattle.std.specs.Prelude.{◌≡◌, map, IfOk};
 ghost use Rattle.std.specs.Option.{option_map};
 ghost use Rattle.kp_text.specs.AclWords.{cut_at_colon as cut_in, acl_of as acl_in, acls_of as acls_in, acl_list_of as acl_list_in, acl_given_by as acl_given_in};
 
-use crate::words::{INT_LIMIT, number_of};
+use crate::words::number_of;
+use kp_model::limits::LAST_COUNT;
 use kp_model::{Acl, Acls, NoMemory, Text};
 use std::alloc::Global;
 
@@ -24,7 +25,7 @@ fn acl_of(alloc: Global, word: &str) -> Result<Option<Acl>, NoMemory>
     let Some((scheme, id)) = cut_at_colon(rest) else {
         return Ok(None);
     };
-    match number_of(INT_LIMIT, perms) {
+    match number_of(LAST_COUNT as u64, perms) {
         None => Ok(None),
         Some(perms) => Ok(Some(Acl {
             perms: perms as u32,

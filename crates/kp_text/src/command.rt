@@ -4,12 +4,13 @@ ghost use Rattle.kp_text.specs.WordParts.{parts_left, left_len};
 ghost use Rattle.kp_text.specs.Commands.{create_of as creation, delete_of as deletion, set_of as setting, check_of as checking, operation_of as operation_named, setacl_of as acl_setting, auth_of as authentication, sync_of as syncing, close_of as closing, is_separator, operation_in as operation_at, operations_of as operations_in, multi_of as multi_in, single_of as single_in, command_of as command_in};
 
 use crate::acl::{acl_given_by, acl_list_of};
-use crate::words::{INT_LIMIT, data_of, number_of, path_of, version_of};
+use crate::words::{data_of, number_of, path_of, version_of};
+use kp_model::limits::LAST_COUNT;
 use kp_model::{Acls, Bytes, Items, NoMemory, Text};
 use std::alloc::Global;
 
 /// A command that a multi may hold, with the words that spell it. Version 4,294,967,295 is -1 and matches every version.
-#[derive(Debug, Drop)]
+#[derive(Drop)]
 pub enum Operation {
     /// `create PATH FLAGS DATA ACL..`: makes a node. Without an ACL word there is no list, and every right is
     /// everyone's; `noacl` is the empty list.
@@ -41,7 +42,7 @@ pub enum Operation {
 pub type Operations = Items<Operation>;
 
 /// A command of a session, with the words that spell it.
-#[derive(Debug, Drop)]
+#[derive(Drop)]
 pub enum Command {
     /// One that a multi may hold too.
     Operation(Operation),
@@ -67,7 +68,7 @@ fn create_of(alloc: Global, words: &[&str]) -> Result<Option<Operation>, NoMemor
             let Some(path) = path_of(alloc, path)? else {
                 return Ok(None);
             };
-            let Some(flags) = number_of(INT_LIMIT, flags) else {
+            let Some(flags) = number_of(LAST_COUNT as u64, flags) else {
                 return Ok(None);
             };
             let Some(bytes) = data_of(alloc, bytes)? else {

@@ -17,8 +17,3 @@ pub use line::{StoreLine, read_store_line};
 pub use print::{
     print_acls, print_data, print_names, print_reply, print_session, print_stat, print_text,
 };
-
-#[cfg(test)]
-mod print_tests;
-#[cfg(test)]
-mod tests;

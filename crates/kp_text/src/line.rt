@@ -5,13 +5,14 @@ ghost use Rattle.kp_text.specs.Lines.{one_number as one_number_in, one_path as o
 use crate::command::{Command, command_of};
 use crate::fail::LineFail;
 use crate::shape::may_be_a_line;
-use crate::words::{LIMIT, number_of, passwd_of, path_of, words_of};
+use crate::words::{number_of, passwd_of, path_of, words_of};
+use kp_model::limits::LAST_NUMBER;
 use kp_model::{NoMemory, Text};
 use std::alloc::Global;
 use std::str;
 
 /// A line of the store language, with its words. Times and timeouts are in milliseconds.
-#[derive(Debug, Drop)]
+#[derive(Drop)]
 pub enum StoreLine {
     /// `time T`: entries from here on have this time.
     Time {
@@ -81,7 +82,7 @@ fn one_number(words: &[&str]) -> Option<u64>
     ensures { result ≡ one_number_in (map (λ x. x.now) words.now) }
 {
     match words {
-        [word] => number_of(LIMIT, word),
+        [word] => number_of(LAST_NUMBER, word),
         _ => None,
     }
 }
@@ -206,7 +207,7 @@ fn attach_line(alloc: Global, words: &[&str]) -> Result<Option<StoreLine>, NoMem
 {
     match words {
         [session, passwd] => {
-            let Some(session) = number_of(LIMIT, session) else {
+            let Some(session) = number_of(LAST_NUMBER, session) else {
                 return Ok(None);
             };
             match passwd_of(alloc, passwd)? {
@@ -224,13 +225,13 @@ fn raw_line(alloc: Global, words: &[&str]) -> Result<Option<StoreLine>, NoMemory
 {
     match words {
         [session, epoch, seq, name, others @ ..] => {
-            let Some(session) = number_of(LIMIT, session) else {
+            let Some(session) = number_of(LAST_NUMBER, session) else {
                 return Ok(None);
             };
-            let Some(epoch) = number_of(LIMIT, epoch) else {
+            let Some(epoch) = number_of(LAST_NUMBER, epoch) else {
                 return Ok(None);
             };
-            let Some(seq) = number_of(LIMIT, seq) else {
+            let Some(seq) = number_of(LAST_NUMBER, seq) else {
                 return Ok(None);
             };
             match command_of(alloc, name, others)? {
@@ -253,7 +254,7 @@ fn write_line(alloc: Global, name: &str, words: &[&str]) -> Result<Option<StoreL
 {
     match words {
         [session, others @ ..] => {
-            let Some(session) = number_of(LIMIT, session) else {
+            let Some(session) = number_of(LAST_NUMBER, session) else {
                 return Ok(None);
             };
             match command_of(alloc, name, others)? {

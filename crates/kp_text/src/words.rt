@@ -4,6 +4,7 @@ ghost use Rattle.std.specs.Option.{option_map};
 ghost use Rattle.std.specs.Char.{is_ascii_digit};
 ghost use Rattle.kp_text.specs.Words.{words_of as words_in, path_of as path_in, is_numeral as is_numeral_of, number_of as number_in, is_lower_hex, hex_of as hex_in, data_of as data_in, passwd_of as passwd_in, of_16, version_of as version_in};
 
+use kp_model::limits::LAST_COUNT;
 use kp_model::{NoMemory, Text};
 use std::alloc::{AllocError, Global};
 
@@ -52,12 +53,6 @@ pub fn number_of(most: u64, word: &str) -> Option<u64>
     }
 }
 
-/// The greatest time, index, session, epoch or running number of a line: 2^62.
-pub const LIMIT: u64 = 4611686018427387904;
-
-/// The greatest version, flags and rights of a line: 2^31 - 1.
-pub const INT_LIMIT: u64 = 2147483647;
-
 /// The version that matches any: -1 in two's complement.
 const ANY_VERSION: u32 = 4294967295;
 
@@ -69,7 +64,7 @@ pub fn version_of(word: &str) -> Option<u32>
     if word == "-1" {
         return Some(ANY_VERSION);
     }
-    match number_of(INT_LIMIT, word) {
+    match number_of(LAST_COUNT as u64, word) {
         None => None,
         Some(version) => Some(version as u32),
     }

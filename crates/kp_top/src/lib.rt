@@ -13,12 +13,3 @@ mod work;
 
 pub use command::run_command;
 pub use status::Status;
-
-#[cfg(test)]
-mod agreement;
-#[cfg(test)]
-mod copies;
-#[cfg(test)]
-mod long_multi;
-#[cfg(test)]
-mod tests;

@@ -1,30 +1,16 @@
 ghost use Rattle.std.specs.Prelude.{◌≡◌, map, IfOk};
-ghost use Rattle.kp_model.specs.State.{open_acl};
 ghost use Rattle.kp_top.specs.LineCommands.{given_acl as given_lines, operation_cmd as operation_asks, nested_op as nested_asks, cmd_of as asks};
 
-use kp_model::{Acl, Acls, Cmd, NoMemory, Op, Ops, Text};
+use kp_model::{Acls, Cmd, NoMemory, Op, Ops};
 use kp_text::{Command, Operation};
 use std::alloc::Global;
-
-/// The access list that gives every right to everyone.
-fn everyone(alloc: Global) -> Result<Acls, NoMemory>
-    ensures { IfOk result (λ acl. acl ≡ open_acl) }
-{
-    let mut acl = Acls::new(alloc);
-    acl.push(Acl {
-        perms: 31,
-        scheme: Text::from_str(alloc, "world")?,
-        id: Text::from_str(alloc, "anyone")?,
-    })?;
-    Ok(acl)
-}
 
 /// The access list of a creation: every right for everyone where none is given.
 fn given_acl(alloc: Global, acl: Option<Acls>) -> Result<Acls, NoMemory>
     ensures { IfOk result (λ made. made ≡ given_lines acl) }
 {
     match acl {
-        None => everyone(alloc),
+        None => Acls::everyone(alloc),
         Some(acl) => Ok(acl),
     }
 }
@@ -65,7 +51,7 @@ fn nested_acl(alloc: Global, acl: &Option<Acls>) -> Result<Acls, NoMemory>
     ensures { IfOk result (λ made. made ≡ given_lines acl.now) }
 {
     match acl {
-        None => everyone(alloc),
+        None => Acls::everyone(alloc),
         Some(acl) => acl.copy(alloc),
     }
 }

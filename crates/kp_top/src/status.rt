@@ -18,13 +18,13 @@ pub enum Status {
     /// A disk failed.
     DiskFault,
     /// A home's slot leaves the grammar at a byte.
-    Damaged { slot: u32, at: u64 },
+    Damaged { slot: u64, at: u64 },
     /// The net failed.
     NetFault,
     /// The input has more than 67,108,864 bytes. Nothing was written.
     TooLong,
     /// A journal or an image would have this length in bytes, which is too much.
-    Full { slot: u32, len: u64 },
+    Full { slot: u64, len: u64 },
 }
 
 impl Status {

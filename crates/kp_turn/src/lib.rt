@@ -4,18 +4,17 @@
 //! the caller knows. A thread calls with a seat of its own, which has no bytes: it stands for what the thread knows.
 #![tactic(auto)]
 
-mod memory;
 mod rule;
 mod stop;
 mod storied;
-#[cfg(test)]
-mod tests;
 mod turn;
 mod view;
 
-pub use memory::NoMemory;
 pub use rule::OneHistory;
 pub use stop::{StopRule, StopSeat, StopView, StopWord};
 pub use storied::Storied;
 pub use turn::{Refused, Turn, TurnOf, TurnSeat, Worn};
 pub use view::{TurnSlot, TurnView};
+
+/// No memory was found: std's own error of an allocation.
+pub type NoMemory = std::alloc::AllocError;

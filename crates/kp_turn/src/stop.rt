@@ -2,7 +2,7 @@
 ghost use Rattle.std.specs.Prelude.{◌≡◌, ◌+◌, ◌<◌, IsTrue, IfOk};
 ghost use Rattle.kp_turn.specs.StopRule.{IsStopWord, no_stop, read, was_set, with_read, with_set, with_stop_split};
 
-use crate::memory::NoMemory;
+use crate::NoMemory;
 use atomic_table::{Play, Seat, Split, Table, TableRule};
 use std::alloc::Global;
 

@@ -7,12 +7,12 @@ ghost use Rattle.kp_turn.specs.TurnMoves.{HasValue, HasStepped, IsOut, SparesEve
 ghost use Rattle.kp_turn.specs.TurnPlays.{Carries, GetsTurn, given_up};
 ghost use Rattle.kp_turn.specs.TurnView.{Adds, IsFull, SeesMore, WaitsOnly, first_view, own, split_off, with_met, with_split};
 
-use crate::memory::NoMemory;
+use crate::NoMemory;
 use crate::rule::{Ask, GiveUp, LoadCount, OneHistory, RaiseCount, SplitOff};
 use crate::storied::Storied;
 use crate::view::{TurnSlot, TurnView};
 use atomic_table::{Refused as NoTable, Seat, Table, TableRule};
-use std::alloc::Global;
+use std::alloc::{AllocError, Global};
 use std::snapshot::Snapshot;
 use std::sync::Wait;
 
@@ -89,7 +89,7 @@ impl<T: Storied> Turn<T> {
         slots.push_reserved(TurnSlot { value, last: None });
         match Table::new(alloc, &[0, FREE], slots, &start) {
             Ok((table, seat)) => Ok((TurnOf { table }, seat)),
-            Err(NoTable { slots: _ }) => Err(NoMemory),
+            Err(NoTable { slots: _ }) => Err(AllocError),
         }
     }
 

@@ -1,7 +1,7 @@
 -- The forms of the connect request and the connect reply are lawful.
-use Rattle.std.proofs.Common.{◌≡◌, ℕ, ◌<◌, pos, Bool, true, false, cond, eqb, List, length, Option, Some, None, refl, sym, ap, ◌∙◌, arith}
+use Rattle.std.proofs.Common.{◌≡◌, ℕ, pos, Bool, true, false, cond, eqb, List, length, Option, Some, None, refl, sym, ap, arith}
 use Rattle.kp_jute.specs.Form.{Lawful, LawfulAtEnd, ◌⊗◌, if_any}
-use Rattle.kp_jute.specs.Jute.{ints, longs, booleans, buffers, unsigned_ints, unsigned_longs, fixed_ints, fixed_booleans, packets}
+use Rattle.kp_jute.specs.Jute.{booleans, buffers, unsigned_ints, unsigned_longs, fixed_ints, fixed_booleans}
 use Rattle.kp_jute.proofs.AtEnd.{both_at_end, seen_at_end, if_any_at_end, at_end, booleans_long}
 use Rattle.kp_jute.proofs.Cases.{narrowed_lawful, fixed_ints_lawful, fixed_booleans_lawful}
 use Rattle.kp_jute.proofs.Combined.{◌&◌}

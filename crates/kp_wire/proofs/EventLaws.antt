@@ -1,5 +1,5 @@
 -- The form of an event is lawful.
-use Rattle.std.proofs.Common.{◌≡◌, ℕ, ℤ, pos, List, Option, Some, None, refl}
+use Rattle.std.proofs.Common.{◌≡◌, ℕ, ℤ, pos, List, Some, None, refl}
 use Rattle.kp_jute.specs.Form.{Lawful, ◌⊗◌, present}
 use Rattle.kp_jute.specs.Jute.{ints, texts, fixed_ints}
 use Rattle.kp_jute.proofs.Cases.{narrowed_lawful, present_lawful, fixed_ints_lawful}

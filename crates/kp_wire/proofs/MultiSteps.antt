@@ -1,7 +1,7 @@
 -- How the results of a multi are read behind the first mark.
 use Rattle.std.proofs.Common.{◌≡◌, ℤ, List, [], ◌∷◌, Result, Ok, Err, refl, sym, ap, ◌∙◌}
 use Rattle.kp_jute.specs.declared.fault.JuteFail.{JuteFail}
-use Rattle.kp_jute.specs.Form.{Place, Reading, ◌>>=◌, Form, Fails}
+use Rattle.kp_jute.specs.Form.{Place, Reading, ◌>>=◌, Fails}
 use Rattle.kp_jute.specs.Jute.{untils}
 use Rattle.kp_jute.proofs.Loops.{failed}
 use Rattle.kp_wire.specs.declared.reply.WireReply.{WireReply}
@@ -13,7 +13,7 @@ use Rattle.kp_wire.specs.declared.result.Mark.{Mark}
 use Rattle.kp_wire.specs.declared.result.Mark.TheVariants as marks
 use Rattle.kp_wire.specs.Common.{behind_all}
 use Rattle.kp_wire.specs.OpKinds.{op_number}
-use Rattle.kp_wire.specs.OpResults.{Answered, OpHeld, op_result, op_results, op_rests, codes, ends, all_marks, MarkHeld, multi_of, MultiReply, result_steps, failure_steps, failure_lists, result_lists}
+use Rattle.kp_wire.specs.OpResults.{Answered, OpHeld, op_result, op_rests, codes, ends, all_marks, MarkHeld, multi_of, MultiReply, result_steps, failure_steps, failure_lists, result_lists}
 use Rattle.kp_wire.specs.Replies.{Outcome, granted_as, OutcomeHeld, reply_of, multi_replies}
 use Rattle.kp_wire.proofs.ResultSteps.{op_results_is}
 

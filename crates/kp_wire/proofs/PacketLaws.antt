@@ -1,8 +1,8 @@
 -- The forms of what the server sends are lawful.
-use Rattle.std.proofs.Common.{◌≡◌, ◌&&◌, ℕ, ℤ, pos, negsuc, Bool, true, false, cond, List, Option, Some, None, refl, sym, ap, ◌∙◌}
+use Rattle.std.proofs.Common.{◌≡◌, ◌&&◌, ℤ, pos, negsuc, Bool, true, false, cond, Some, refl, sym, ap, ◌∙◌}
 use Rattle.std.specs.Ordering.{int_eq}
 use Rattle.kp_jute.specs.Form.{Lawful, ◌⊗◌, tagged}
-use Rattle.kp_jute.specs.Jute.{ints, longs, fixed_ints, packets}
+use Rattle.kp_jute.specs.Jute.{ints, longs}
 use Rattle.kp_jute.proofs.AtEnd.{at_end}
 use Rattle.kp_jute.proofs.Cases.{narrowed_lawful, fixed_ints_lawful, tagged_lawful}
 use Rattle.kp_jute.proofs.Combined.{◌&◌, seen_lawful}

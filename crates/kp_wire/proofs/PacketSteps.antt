@@ -1,8 +1,7 @@
 -- How a packet's record is read behind its xid and zxid.
-use Rattle.std.proofs.Common.{◌≡◌, ℕ, ℤ, pos, negsuc, Bool, true, false, cond, Result, Ok, Err, refl, sym, ap, ◌∙◌}
-use Rattle.std.specs.Ordering.{int_eq}
+use Rattle.std.proofs.Common.{◌≡◌, ℤ, pos, true, false, cond, Result, Ok, Err, refl, ap, ◌∙◌}
 use Rattle.kp_jute.specs.declared.fault.JuteFail.{JuteFail}
-use Rattle.kp_jute.specs.Form.{Place, Reading, ◌>>=◌, ◌⊗◌, Fails}
+use Rattle.kp_jute.specs.Form.{Place, ◌>>=◌, ◌⊗◌}
 use Rattle.kp_jute.specs.Jute.{fixed_ints}
 use Rattle.kp_model.specs.declared.reply.Event.{Event}
 use Rattle.kp_wire.specs.declared.reply.Shape.{Shape}

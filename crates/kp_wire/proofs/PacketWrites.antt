@@ -1,16 +1,17 @@
 -- What is written for a packet is its spelling.
-use Rattle.std.proofs.Common.{◌≡◌, ℕ, ◌^◌, ◌<◌, ℤ, pos, negsuc, Bool, true, false, cond, List, [], ◌++◌, length, Option, Some, Result, Ok, Err, refl, sym, ap, subst, ◌∙◌, append_assoc}
+use Rattle.std.proofs.Common.{◌≡◌, ℕ, ◌^◌, ◌<◌, ℤ, pos, negsuc, Bool, false, cond, List, ◌++◌, length, Some, Result, Ok, Err, refl, sym, ap, ◌∙◌, append_assoc}
 use Rattle.std.specs.Prelude.{IfOk}
-use Rattle.kp_jute.specs.Form.{Form, Wrote, tagged}
+use Rattle.kp_jute.specs.Form.{Form, Wrote}
 use Rattle.kp_jute.specs.Jute.{ints, longs, buffer, gap}
 use Rattle.kp_model.specs.declared.reply.Event.{Event}
 use Rattle.kp_wire.specs.declared.reply.Shape.{Shape}
 use Rattle.kp_wire.specs.declared.reply.WireReply.{WireReply}
+use Rattle.kp_wire.specs.declared.reply.WireReply.TheVariants as reply
 use Rattle.kp_wire.specs.declared.packet.Packet.TheVariants as packet
 use Rattle.kp_wire.specs.Common.{Sends}
 use Rattle.kp_wire.specs.Events.{events}
 use Rattle.kp_wire.specs.Replies.{replies, shape_in, HasShape}
-use Rattle.kp_wire.specs.ServerPackets.{Cause, fired, asked, headers, answers, is_event}
+use Rattle.kp_wire.specs.ServerPackets.{fired, asked, headers, answers, is_event}
 use Rattle.kp_wire.proofs.ReplyWrites.{of_shape}
 
 -- the packet of what was written behind the gap for the length
@@ -53,3 +54,23 @@ wrote_fired s e a b c d f xid zxid code body =
       fits = (((xid.fits, zxid.fits), refl), ((code.fits, refl), body.fits));
       added = first ∙ ap (λ (u : List ℕ). a ++ u) (sym (append_assoc x z (n ++ text)));
     }
+
+-- ---- a packet was begun
+
+-- what was written behind the gap
+pub begun : {A : Type 0} (f : Form A) (v : A) (old new : List ℕ) → old ≡ gap → Wrote f v old new → (body : List ℕ) × (new ≡ gap ++ body)
+begun f v old new start w = (f.spell v, w.added ∙ ap (λ x. x ++ f.spell v) start)
+
+-- each reply has the shape that it has by itself
+pub its_shape : (r : WireReply) → HasShape (shape_in r) r
+its_shape (reply.Err z) = tt
+its_shape reply.Empty = refl
+its_shape (reply.Path path) = refl
+its_shape (reply.PathStat path stat) = refl
+its_shape (reply.Stat stat) = refl
+its_shape (reply.Data bytes stat) = refl
+its_shape (reply.Acl acl stat) = refl
+its_shape (reply.Names names) = refl
+its_shape (reply.NamesStat names stat) = refl
+its_shape (reply.Multi xs) = refl
+its_shape (reply.Failed zs) = refl

@@ -1,9 +1,9 @@
 -- Forms of types of which some values have a spelling only, and what names a number: each is lawful.
-use Rattle.std.proofs.Common.{◌≡◌, ℕ, ◌+◌, ℤ, Bool, true, false, cond, List, [], ◌++◌, length, Option, Some, None, Result, Ok, Err, refl, sym, ap, subst, ◌∙◌, arith}
+use Rattle.std.proofs.Common.{◌≡◌, ℕ, ◌+◌, ℤ, Bool, true, false, cond, List, [], ◌++◌, length, Option, Some, None, Result, Ok, refl, sym, ap, subst, ◌∙◌, arith}
 use Rattle.std.specs.Ordering.{int_eq}
 use Rattle.std.proofs.lemmas.Bool.Decides.{Decides-int_eq}
 use Rattle.kp_jute.specs.declared.fault.JuteFail.{JuteFail}
-use Rattle.kp_jute.specs.Form.{IsBytes, Takes, front, Lawful, Place, ◌>>=◌, Form, spelled_if}
+use Rattle.kp_jute.specs.Form.{Takes, front, Lawful, Place, ◌>>=◌, Form, spelled_if}
 use Rattle.kp_jute.proofs.Combined.{bind_ok, ok_is}
 use Rattle.kp_wire.specs.Partly.{fits_if, partly, nothing}
 

@@ -1,5 +1,5 @@
 -- The forms of replies are lawful.
-use Rattle.std.proofs.Common.{◌≡◌, ℕ, ℤ, pos, Bool, true, false, cond, List, Option, Some, None, refl, sym, ap, ◌∙◌}
+use Rattle.std.proofs.Common.{◌≡◌, ℤ, pos, Bool, true, false, cond, Some, refl, sym, ap, ◌∙◌}
 use Rattle.std.specs.Ordering.{int_eq}
 use Rattle.kp_jute.specs.Form.{Lawful, ◌⊗◌, present, tagged}
 use Rattle.kp_jute.specs.Jute.{ints, texts, buffers, vectors, unsigned_ints}

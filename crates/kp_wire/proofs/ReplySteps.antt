@@ -1,13 +1,10 @@
 -- How a reply is read behind its code.
-use Rattle.std.proofs.Common.{◌≡◌, ℤ, pos, Bool, true, false, Ok, Result, refl, sym, ap, ◌∙◌}
+use Rattle.std.proofs.Common.{◌≡◌, ℤ, pos, Bool, true, false, Ok, refl, sym}
 use Rattle.std.specs.Ordering.{int_eq}
 use Rattle.std.specs.Bool.{Decides}
 use Rattle.std.proofs.lemmas.Bool.Decides.{Decides-int_eq}
-use Rattle.kp_jute.specs.declared.fault.JuteFail.{JuteFail}
-use Rattle.kp_jute.specs.Form.{Place, ◌>>=◌, Fails}
+use Rattle.kp_jute.specs.Form.{Place}
 use Rattle.kp_jute.specs.Jute.{ints}
-use Rattle.kp_jute.proofs.Loops.{failed}
-use Rattle.kp_wire.specs.declared.reply.WireReply.{WireReply}
 use Rattle.kp_wire.specs.declared.reply.WireReply.TheVariants as reply
 use Rattle.kp_wire.specs.declared.reply.Shape.{Shape}
 use Rattle.kp_wire.specs.declared.reply.Shape.TheVariants as shapes

@@ -1,7 +1,7 @@
 -- The forms of a multi's results are lawful.
-use Rattle.std.proofs.Common.{◌≡◌, ℕ, ◌<◌, ℤ, pos, negsuc, Bool, true, false, List, [], ◌∷◌, length, Option, Some, None, option_map, refl, sym, ap, subst, ◌∙◌, arith}
-use Rattle.kp_jute.specs.Form.{Lawful, Form, ◌⊗◌, present, tagged, spelled_if}
-use Rattle.kp_jute.specs.Jute.{ints, texts, booleans, fixed_ints, fixed_booleans, number}
+use Rattle.std.proofs.Common.{◌≡◌, ℕ, ◌<◌, ℤ, pos, negsuc, Bool, true, false, List, [], ◌∷◌, length, Option, Some, None, option_map, refl, sym, ap, ◌∙◌, arith}
+use Rattle.kp_jute.specs.Form.{Lawful, ◌⊗◌, tagged, spelled_if}
+use Rattle.kp_jute.specs.Jute.{ints, texts, fixed_ints, fixed_booleans, number}
 use Rattle.kp_jute.proofs.Cases.{narrowed_lawful, present_lawful, fixed_ints_lawful, fixed_booleans_lawful, tagged_lawful}
 use Rattle.kp_jute.proofs.Combined.{◌&◌, seen_lawful}
 use Rattle.kp_jute.proofs.EndMarks.{spelled_untils_lawful}

@@ -1,7 +1,7 @@
 -- How a result is read behind its mark.
-use Rattle.std.proofs.Common.{◌≡◌, Bool, Option, Some, Result, Ok, Err, refl, sym, ap, ◌∙◌, subst}
+use Rattle.std.proofs.Common.{◌≡◌, Bool, Option, Some, Result, Ok, Err, refl, sym, ap, ◌∙◌}
 use Rattle.kp_jute.specs.declared.fault.JuteFail.{JuteFail}
-use Rattle.kp_jute.specs.Form.{Place, Reading, ◌>>=◌, Form, Fails, tagged}
+use Rattle.kp_jute.specs.Form.{Place, ◌>>=◌, Fails}
 use Rattle.kp_jute.specs.Jute.{booleans}
 use Rattle.kp_jute.proofs.Loops.{failed}
 use Rattle.kp_wire.specs.declared.result.OpResult.{OpResult}
@@ -12,7 +12,7 @@ use Rattle.kp_wire.specs.declared.result.Mark.TheVariants as marks
 use Rattle.kp_wire.specs.declared.result.Lead.{Lead}
 use Rattle.kp_wire.specs.declared.result.Lead.TheVariants as leads
 use Rattle.kp_wire.specs.OpKinds.{op_number}
-use Rattle.kp_wire.specs.OpResults.{Answered, OpHeld, op_result, op_read, op_results, op_rests, lead_forms, LeadHeld, mark_of, closed, all_marks, result_marks, ResultHeld, result_rests, result_of, result_steps}
+use Rattle.kp_wire.specs.OpResults.{Answered, OpHeld, op_result, op_read, op_results, op_rests, lead_forms, LeadHeld, mark_of, closed, all_marks, ResultHeld, result_of, result_steps}
 
 -- ---- marks
 

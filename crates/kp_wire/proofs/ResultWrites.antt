@@ -1,8 +1,8 @@
 -- What is written for the results of a multi is their spelling.
-use Rattle.std.proofs.Common.{◌≡◌, ℕ, ◌<◌, ℤ, pos, negsuc, Bool, true, false, List, [], ◌∷◌, ◌++◌, length, Option, Some, None, option_map, refl, sym, ap, subst, ◌∙◌, append_assoc, arith}
+use Rattle.std.proofs.Common.{◌≡◌, ℕ, ◌<◌, ℤ, pos, false, List, [], ◌∷◌, ◌++◌, length, Option, Some, None, option_map, refl, sym, ap, subst, ◌∙◌, append_assoc, arith}
 use Rattle.std.specs.Prelude.{FitsSigned}
 use Rattle.std.specs.Int.{w32}
-use Rattle.std.specs.List.{flat_map, AllByRecursion}
+use Rattle.std.specs.List.{flat_map}
 use Rattle.std.proofs.lemmas.List.{append-nil}
 use Rattle.std.proofs.lemmas.List.Concat.{flat_map-cons}
 use Rattle.std.proofs.Math.Facts.{sfits_lit}
@@ -12,10 +12,9 @@ use Rattle.kp_wire.specs.declared.result.OpResult.{OpResult}
 use Rattle.kp_wire.specs.declared.op_kind.OpKind.{OpKind}
 use Rattle.kp_wire.specs.declared.op_kind.OpKind.TheVariants as kinds
 use Rattle.kp_wire.specs.declared.result.Lead.TheVariants as leads
-use Rattle.kp_wire.specs.declared.result.Mark.{Mark}
 use Rattle.kp_wire.specs.declared.result.Mark.TheVariants as marks
 use Rattle.kp_wire.specs.OpKinds.{op_number, op_named}
-use Rattle.kp_wire.specs.OpResults.{Answered, OpHeld, op_result, op_held, op_bodies, op_replies, op_rests, lead_named, all_marks, codes, ends, result_marks, ResultHeld, result_rests, result_as, result_in, result_steps, failure_steps, MarkHeld, mark_rests, begun_as, multis, held, failed}
+use Rattle.kp_wire.specs.OpResults.{Answered, OpHeld, op_held, op_bodies, op_replies, op_rests, lead_named, all_marks, codes, result_marks, ResultHeld, result_rests, result_as, result_in, result_steps, failure_steps, mark_rests, begun_as, multis, held, failed}
 use Rattle.kp_wire.specs.Partly.{fits_if}
 use Rattle.kp_wire.proofs.ResultLaws.{op_own}
 

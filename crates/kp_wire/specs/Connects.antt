@@ -1,5 +1,5 @@
 -- The connect request and the connect reply.
-use Rattle.std.specs.Prelude.{◌≡◌, ◌==◌, ℕ, ℤ, pos, Bool, true, false, List, length, Option, Some, None, if◌then◌else◌}
+use Rattle.std.specs.Prelude.{◌==◌, ℕ, ℤ, pos, Bool, true, false, List, length, Option, Some, None, if◌then◌else◌}
 use Rattle.kp_jute.specs.Form.{Form, ◌⊗◌, seen, narrowed, if_any}
 use Rattle.kp_jute.specs.Jute.{ints, longs, booleans, buffers, unsigned_ints, unsigned_longs, fixed_ints, fixed_booleans, packets}
 use Rattle.kp_wire.specs.declared.connect.ConnectRequest.{ConnectRequest}

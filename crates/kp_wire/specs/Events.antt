@@ -1,5 +1,5 @@
 -- The body of an event packet: a type, the state 3 and a path.
-use Rattle.std.specs.Prelude.{◌≡◌, ℕ, ℤ, pos, List, Option, Some, None, if◌then◌else◌}
+use Rattle.std.specs.Prelude.{ℕ, ℤ, pos, List, Option, Some, None, if◌then◌else◌}
 use Rattle.std.specs.Ordering.{int_eq}
 use Rattle.kp_jute.specs.Form.{Form, ◌⊗◌, seen, narrowed, present}
 use Rattle.kp_jute.specs.Jute.{ints, texts, fixed_ints}

@@ -8,3 +8,4 @@ pub mod Partly
 pub mod Replies
 pub mod Request
 pub mod ServerPackets
+pub mod Stats

@@ -1,8 +1,7 @@
 -- The results of a multi: for each operation a mark and its reply, or a mark and its error, up to an end mark.
-use Rattle.std.specs.Prelude.{◌≡◌, ℕ, ℤ, pos, negsuc, Bool, true, false, List, [], ◌∷◌, ◌++◌, Result, Option, Some, None, option_map, Ok, if◌then◌else◌}
+use Rattle.std.specs.Prelude.{ℕ, ℤ, pos, negsuc, Bool, true, false, List, [], ◌∷◌, Option, Some, None, option_map, Ok, if◌then◌else◌}
 use Rattle.std.specs.Ordering.{int_eq}
-use Rattle.kp_jute.specs.declared.fault.JuteFail.{JuteFail}
-use Rattle.kp_jute.specs.Form.{Place, Reading, ◌>>=◌, Form, ◌⊗◌, seen, narrowed, present, tagged}
+use Rattle.kp_jute.specs.Form.{Reading, ◌>>=◌, Form, ◌⊗◌, seen, narrowed, present, tagged}
 use Rattle.kp_jute.specs.Jute.{ints, booleans, texts, untils, fixed_ints, fixed_booleans}
 use Rattle.kp_wire.specs.declared.stat.Stat.{Stat}
 use Rattle.kp_wire.specs.declared.result.OpResult.{OpResult}

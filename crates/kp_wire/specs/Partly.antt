@@ -1,5 +1,5 @@
 -- A type of which some values have a spelling only.
-use Rattle.std.specs.Prelude.{◌≡◌, ℕ, List, [], Option, Some, None, Ok}
+use Rattle.std.specs.Prelude.{[], Option, Some, None, Ok}
 use Rattle.kp_jute.specs.Form.{◌>>=◌, Form, spelled_if}
 
 -- what is there has a spelling

@@ -1,5 +1,5 @@
 -- Replies: the code, and behind the code 0 what a reply to that type of request holds.
-use Rattle.std.specs.Prelude.{◌≡◌, ℕ, ℤ, pos, List, Option, Some, None, Result, Ok, if◌then◌else◌}
+use Rattle.std.specs.Prelude.{◌≡◌, ℕ, ℤ, pos, List, Some, Result, Ok, if◌then◌else◌}
 use Rattle.std.specs.Ordering.{int_eq}
 use Rattle.kp_jute.specs.declared.fault.JuteFail.{JuteFail}
 use Rattle.kp_jute.specs.Form.{Place, Reading, ◌>>=◌, Form, Wrote, ◌⊗◌, seen, narrowed, present, tagged}
@@ -10,7 +10,7 @@ use Rattle.kp_wire.specs.declared.reply.Shape.{Shape}
 use Rattle.kp_wire.specs.declared.reply.Shape.TheVariants as shapes
 use Rattle.kp_wire.specs.declared.reply.WireReply.{WireReply}
 use Rattle.kp_wire.specs.declared.reply.WireReply.TheVariants as reply
-use Rattle.kp_wire.specs.Partly.{partly, nothing}
+use Rattle.kp_wire.specs.Partly.{nothing}
 use Rattle.kp_wire.specs.Common.{stats}
 use Rattle.kp_wire.specs.OpResults.{MultiReply, held, failed, multis}
 

@@ -1,5 +1,5 @@
 -- What the server sends: a packet of a header with an xid, a zxid and a code, and a body.
-use Rattle.std.specs.Prelude.{◌≡◌, ◌&&◌, ℕ, ℤ, pos, negsuc, Bool, Option, Some, Ok, if◌then◌else◌}
+use Rattle.std.specs.Prelude.{◌&&◌, ℤ, pos, negsuc, Bool, Some, Ok, if◌then◌else◌}
 use Rattle.std.specs.Ordering.{int_eq}
 use Rattle.kp_jute.specs.Form.{Reading, ◌>>=◌, Form, ◌⊗◌, seen, narrowed, tagged}
 use Rattle.kp_jute.specs.Jute.{ints, longs, fixed_ints, packets}

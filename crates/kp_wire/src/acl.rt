@@ -14,7 +14,7 @@ use std::alloc::Global;
 pub type WireAcls = Items<WireAcl>;
 
 /// One line of it. `perms` stands for an int in two's complement.
-#[derive(Debug, Drop)]
+#[derive(Drop)]
 pub struct WireAcl {
     pub perms: u32,
     pub scheme: Option<Text>,

@@ -15,7 +15,7 @@ use kp_model::{Bytes, NoMemory};
 use std::alloc::Global;
 
 /// The first packet of a client, with the fields as they are sent.
-#[derive(Debug, Drop)]
+#[derive(Drop)]
 pub struct ConnectRequest {
     pub protocol: i32,
     /// The zxid that the client saw last.
@@ -31,7 +31,7 @@ pub struct ConnectRequest {
 }
 
 /// What a connect request is answered. `timeout` and `session` stand for an int and a long in two's complement.
-#[derive(Clone, Copy, Debug)]
+#[derive(Clone, Copy)]
 pub struct ConnectReply {
     /// The session's timeout in milliseconds; 0 where the connect is refused.
     pub timeout: u32,

@@ -79,7 +79,8 @@ impl ConnectRequest {
     }
 }
 
-pub fn copy_bytes(alloc: Global, bytes: &Option<Bytes>) -> Result<Option<Bytes>, NoMemory>
+/// An equal buffer with memory of its own.
+pub(crate) fn copy_bytes(alloc: Global, bytes: &Option<Bytes>) -> Result<Option<Bytes>, NoMemory>
     ensures { IfOk result (λ made. made ≡ bytes.now) }
 {
     match bytes {

@@ -26,7 +26,8 @@ impl Duplicate for WireAcl {
     }
 }
 
-pub fn copy_text(alloc: Global, text: &Option<Text>) -> Result<Option<Text>, NoMemory>
+/// An equal text with memory of its own.
+pub(crate) fn copy_text(alloc: Global, text: &Option<Text>) -> Result<Option<Text>, NoMemory>
     ensures { IfOk result (λ made. made ≡ text.now) }
 {
     match text {
@@ -35,7 +36,8 @@ pub fn copy_text(alloc: Global, text: &Option<Text>) -> Result<Option<Text>, NoM
     }
 }
 
-pub fn copy_acl(alloc: Global, acl: &Option<WireAcls>) -> Result<Option<WireAcls>, NoMemory>
+/// An equal access list with memory of its own.
+pub(crate) fn copy_acl(alloc: Global, acl: &Option<WireAcls>) -> Result<Option<WireAcls>, NoMemory>
     ensures { IfOk result (λ made. made ≡ acl.now) }
 {
     match acl {
@@ -44,7 +46,11 @@ pub fn copy_acl(alloc: Global, acl: &Option<WireAcls>) -> Result<Option<WireAcls
     }
 }
 
-pub fn copy_texts(alloc: Global, texts: &Option<WireTexts>) -> Result<Option<WireTexts>, NoMemory>
+/// An equal list of texts with memory of its own.
+pub(crate) fn copy_texts(
+    alloc: Global,
+    texts: &Option<WireTexts>,
+) -> Result<Option<WireTexts>, NoMemory>
     ensures { IfOk result (λ made. made ≡ texts.now) }
 {
     match texts {

@@ -45,7 +45,8 @@ impl Duplicate for WireOp {
     }
 }
 
-pub fn copy_create(
+/// An equal creation with memory of its own.
+pub(crate) fn copy_create(
     alloc: Global,
     path: &Option<Text>,
     bytes: &Option<Bytes>,
@@ -62,7 +63,8 @@ pub fn copy_create(
     })
 }
 
-pub fn copy_create2(
+/// An equal creation that asks for the numbers of the node, with memory of its own.
+pub(crate) fn copy_create2(
     alloc: Global,
     path: &Option<Text>,
     bytes: &Option<Bytes>,
@@ -79,7 +81,12 @@ pub fn copy_create2(
     })
 }
 
-pub fn copy_delete(alloc: Global, path: &Option<Text>, version: u32) -> Result<WireOp, NoMemory>
+/// An equal removal with memory of its own.
+pub(crate) fn copy_delete(
+    alloc: Global,
+    path: &Option<Text>,
+    version: u32,
+) -> Result<WireOp, NoMemory>
     ensures { IfOk result (λ made. made ≡ ops.Delete path.now version) }
 {
     Ok(WireOp::Delete {
@@ -88,7 +95,8 @@ pub fn copy_delete(alloc: Global, path: &Option<Text>, version: u32) -> Result<W
     })
 }
 
-pub fn copy_set_data(
+/// An equal setting of data with memory of its own.
+pub(crate) fn copy_set_data(
     alloc: Global,
     path: &Option<Text>,
     bytes: &Option<Bytes>,
@@ -103,7 +111,12 @@ pub fn copy_set_data(
     })
 }
 
-pub fn copy_check(alloc: Global, path: &Option<Text>, version: u32) -> Result<WireOp, NoMemory>
+/// An equal look at a version with memory of its own.
+pub(crate) fn copy_check(
+    alloc: Global,
+    path: &Option<Text>,
+    version: u32,
+) -> Result<WireOp, NoMemory>
     ensures { IfOk result (λ made. made ≡ ops.Check path.now version) }
 {
     Ok(WireOp::Check {

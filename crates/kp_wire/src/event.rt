@@ -14,7 +14,7 @@ use std::alloc::Global;
 const STATE: i32 = 3;
 
 /// What happened at the path.
-#[derive(Clone, Copy, Debug)]
+#[derive(Clone, Copy)]
 enum EventKind {
     Created,
     Deleted,
@@ -55,8 +55,8 @@ fn event_from(kind: EventKind, path: Text) -> Event
     }
 }
 
-// Reads the body of an event.
-pub fn read_event(alloc: Global, reader: &mut Reader<'_>) -> Result<Event, JuteFail>
+/// Reads the body of an event.
+pub(crate) fn read_event(alloc: Global, reader: &mut Reader<'_>) -> Result<Event, JuteFail>
     ensures { Gives (λ x. x) result reader.new (events.read reader.old) }
 {
     let kind = read_kind(reader)?;
@@ -77,8 +77,8 @@ fn parts_of(event: &Event) -> (i32, &Text)
     }
 }
 
-// Writes the body of an event.
-pub fn write_event_body(writer: &mut Writer, event: &Event) -> Result<(), NoMemory>
+/// Writes the body of an event.
+pub(crate) fn write_event_body(writer: &mut Writer, event: &Event) -> Result<(), NoMemory>
     ensures { OnOk result (Wrote events event.now writer.old writer.new) }
 {
     let (number, path) = parts_of(event);

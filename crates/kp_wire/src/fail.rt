@@ -31,8 +31,8 @@ impl From<JuteFail> for WireFail {
     }
 }
 
-// The same answer, with a refusal as one of the frame.
-pub fn told<T>(answer: Result<T, JuteFail>) -> Result<T, WireFail>
+/// The same answer, with a refusal as one of the frame.
+pub(crate) fn told<T>(answer: Result<T, JuteFail>) -> Result<T, WireFail>
     ensures { result ≡ refused_as answer }
 {
     match answer {

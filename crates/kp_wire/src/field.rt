@@ -44,8 +44,8 @@ impl Element for Acl {
     }
 }
 
-// Reads a text that may not be null.
-pub fn read_some_text(alloc: Global, reader: &mut Reader<'_>) -> Result<Text, JuteFail>
+/// Reads a text that may not be null.
+pub(crate) fn read_some_text(alloc: Global, reader: &mut Reader<'_>) -> Result<Text, JuteFail>
     ensures { Gives (λ x. x) result reader.new ((present texts).read reader.old) }
 {
     let at = reader.place();
@@ -55,8 +55,8 @@ pub fn read_some_text(alloc: Global, reader: &mut Reader<'_>) -> Result<Text, Ju
     }
 }
 
-// Reads a buffer that may not be null.
-pub fn read_some_bytes(alloc: Global, reader: &mut Reader<'_>) -> Result<Bytes, JuteFail>
+/// Reads a buffer that may not be null.
+pub(crate) fn read_some_bytes(alloc: Global, reader: &mut Reader<'_>) -> Result<Bytes, JuteFail>
     ensures { Gives (λ x. x) result reader.new ((present buffers).read reader.old) }
 {
     let at = reader.place();
@@ -66,8 +66,8 @@ pub fn read_some_bytes(alloc: Global, reader: &mut Reader<'_>) -> Result<Bytes, 
     }
 }
 
-// Reads a vector that may not be null.
-pub fn read_some_list<T: Element + Drop>(
+/// Reads a vector that may not be null.
+pub(crate) fn read_some_list<T: Element + Drop>(
     alloc: Global,
     reader: &mut Reader<'_>,
 ) -> Result<Items<T>, JuteFail>
@@ -80,29 +80,33 @@ pub fn read_some_list<T: Element + Drop>(
     }
 }
 
-// Writes a text.
-pub fn write_some_text(writer: &mut Writer, text: &Text) -> Result<(), NoMemory>
+/// Writes a text.
+pub(crate) fn write_some_text(writer: &mut Writer, text: &Text) -> Result<(), NoMemory>
     ensures { OnOk result (Wrote (present texts) text.now writer.old writer.new) }
 {
     writer.ustring(Some(text.as_str()))
 }
 
-// Writes a buffer.
-pub fn write_some_bytes(writer: &mut Writer, bytes: &Bytes) -> Result<(), NoMemory>
+/// Writes a buffer.
+pub(crate) fn write_some_bytes(writer: &mut Writer, bytes: &Bytes) -> Result<(), NoMemory>
     ensures { OnOk result (Wrote (present buffers) bytes.now writer.old writer.new) }
 {
     writer.buffer(Some(bytes.as_slice()))
 }
 
-// Writes a vector.
-pub fn write_some_list<T: Element>(writer: &mut Writer, list: &Items<T>) -> Result<(), NoMemory>
+/// Writes a vector.
+pub(crate) fn write_some_list<T: Element>(
+    writer: &mut Writer,
+    list: &Items<T>,
+) -> Result<(), NoMemory>
     ensures { OnOk result (Wrote (present (vectors T.form)) list.now writer.old writer.new) }
 {
     write_list(writer, list)
 }
 
-// The packet of the record that was written, with its length.
-pub fn packet_of(writer: Writer) -> Result<Bytes, NoMemory>
+/// The packet of the record that was written, with its length.
+pub(crate) fn packet_of(writer: Writer) -> Result<Bytes, NoMemory>
+    requires { (body : List ℕ) × (writer ≡ gap ++ body) }
     ensures { (body : List ℕ) → writer ≡ gap ++ body → IfOk result (λ b. (length body < 2 ^ 31) × (b ≡ buffer (Some body))) }
 {
     Ok(Bytes::from_vec(writer.finish_packet()?))

@@ -13,7 +13,7 @@ use kp_model::{Bytes, Text};
 use std::alloc::Global;
 
 /// The fields of a create.
-#[derive(Debug, Drop)]
+#[derive(Drop)]
 pub struct Creation {
     pub path: Option<Text>,
     pub bytes: Option<Bytes>,
@@ -22,21 +22,21 @@ pub struct Creation {
 }
 
 /// A path, and the version that it is to have.
-#[derive(Debug, Drop)]
+#[derive(Drop)]
 pub struct Versioned {
     pub path: Option<Text>,
     pub version: u32,
 }
 
 /// A path, and whether a watch is left there.
-#[derive(Debug, Drop)]
+#[derive(Drop)]
 pub struct Watched {
     pub path: Option<Text>,
     pub watch: bool,
 }
 
 /// The fields of a setData.
-#[derive(Debug, Drop)]
+#[derive(Drop)]
 pub struct Setting {
     pub path: Option<Text>,
     pub bytes: Option<Bytes>,
@@ -44,7 +44,7 @@ pub struct Setting {
 }
 
 /// The fields of a setACL.
-#[derive(Debug, Drop)]
+#[derive(Drop)]
 pub struct AclSetting {
     pub path: Option<Text>,
     pub acl: Option<WireAcls>,
@@ -52,7 +52,7 @@ pub struct AclSetting {
 }
 
 /// The fields of an auth.
-#[derive(Debug, Drop)]
+#[derive(Drop)]
 pub struct Showing {
     pub kind: i32,
     pub scheme: Option<Text>,
@@ -60,7 +60,7 @@ pub struct Showing {
 }
 
 /// The fields of a setWatches.
-#[derive(Debug, Drop)]
+#[derive(Drop)]
 pub struct Watches {
     pub zxid: i64,
     pub contents: Option<WireTexts>,
@@ -68,7 +68,8 @@ pub struct Watches {
     pub child: Option<WireTexts>,
 }
 
-pub fn read_creation(alloc: Global, reader: &mut Reader<'_>) -> Result<Creation, JuteFail>
+/// Reads the fields of a creation.
+pub(crate) fn read_creation(alloc: Global, reader: &mut Reader<'_>) -> Result<Creation, JuteFail>
     ensures { Gives (λ c. c) result reader.new (creations.read reader.old) }
 {
     let path = read_text(alloc, reader)?;
@@ -83,7 +84,8 @@ pub fn read_creation(alloc: Global, reader: &mut Reader<'_>) -> Result<Creation,
     })
 }
 
-pub fn read_versioned(alloc: Global, reader: &mut Reader<'_>) -> Result<Versioned, JuteFail>
+/// Reads a path and a version.
+pub(crate) fn read_versioned(alloc: Global, reader: &mut Reader<'_>) -> Result<Versioned, JuteFail>
     ensures { Gives (λ v. v) result reader.new (versioneds.read reader.old) }
 {
     let path = read_text(alloc, reader)?;
@@ -91,7 +93,8 @@ pub fn read_versioned(alloc: Global, reader: &mut Reader<'_>) -> Result<Versione
     Ok(Versioned { path, version })
 }
 
-pub fn read_watched(alloc: Global, reader: &mut Reader<'_>) -> Result<Watched, JuteFail>
+/// Reads a path, and whether a watch is left there.
+pub(crate) fn read_watched(alloc: Global, reader: &mut Reader<'_>) -> Result<Watched, JuteFail>
     ensures { Gives (λ v. v) result reader.new (watcheds.read reader.old) }
 {
     let path = read_text(alloc, reader)?;
@@ -99,7 +102,8 @@ pub fn read_watched(alloc: Global, reader: &mut Reader<'_>) -> Result<Watched, J
     Ok(Watched { path, watch })
 }
 
-pub fn read_setting(alloc: Global, reader: &mut Reader<'_>) -> Result<Setting, JuteFail>
+/// Reads the fields of a setting of data.
+pub(crate) fn read_setting(alloc: Global, reader: &mut Reader<'_>) -> Result<Setting, JuteFail>
     ensures { Gives (λ s. s) result reader.new (settings.read reader.old) }
 {
     let path = read_text(alloc, reader)?;
@@ -112,7 +116,11 @@ pub fn read_setting(alloc: Global, reader: &mut Reader<'_>) -> Result<Setting, J
     })
 }
 
-pub fn read_acl_setting(alloc: Global, reader: &mut Reader<'_>) -> Result<AclSetting, JuteFail>
+/// Reads the fields of a setting of an access list.
+pub(crate) fn read_acl_setting(
+    alloc: Global,
+    reader: &mut Reader<'_>,
+) -> Result<AclSetting, JuteFail>
     ensures { Gives (λ s. s) result reader.new (acl_settings.read reader.old) }
 {
     let path = read_text(alloc, reader)?;
@@ -121,7 +129,8 @@ pub fn read_acl_setting(alloc: Global, reader: &mut Reader<'_>) -> Result<AclSet
     Ok(AclSetting { path, acl, version })
 }
 
-pub fn read_showing(alloc: Global, reader: &mut Reader<'_>) -> Result<Showing, JuteFail>
+/// Reads what a client shows of itself.
+pub(crate) fn read_showing(alloc: Global, reader: &mut Reader<'_>) -> Result<Showing, JuteFail>
     ensures { Gives (λ s. s) result reader.new (showings.read reader.old) }
 {
     let kind = reader.int()?;
@@ -130,7 +139,8 @@ pub fn read_showing(alloc: Global, reader: &mut Reader<'_>) -> Result<Showing, J
     Ok(Showing { kind, scheme, auth })
 }
 
-pub fn read_watches(alloc: Global, reader: &mut Reader<'_>) -> Result<Watches, JuteFail>
+/// Reads the watches that a client had.
+pub(crate) fn read_watches(alloc: Global, reader: &mut Reader<'_>) -> Result<Watches, JuteFail>
     ensures { Gives (λ w. w) result reader.new (watches.read reader.old) }
 {
     let zxid = reader.long()?;
@@ -145,7 +155,8 @@ pub fn read_watches(alloc: Global, reader: &mut Reader<'_>) -> Result<Watches, J
     })
 }
 
-pub fn write_creation(
+/// Writes the fields of a creation.
+pub(crate) fn write_creation(
     writer: &mut Writer,
     path: &Option<Text>,
     bytes: &Option<Bytes>,
@@ -161,7 +172,8 @@ pub fn write_creation(
     Ok(())
 }
 
-pub fn write_versioned(
+/// Writes a path and a version.
+pub(crate) fn write_versioned(
     writer: &mut Writer,
     path: &Option<Text>,
     version: u32,
@@ -173,7 +185,12 @@ pub fn write_versioned(
     Ok(())
 }
 
-pub fn write_watched(writer: &mut Writer, path: &Option<Text>, watch: bool) -> Result<(), NoMemory>
+/// Writes a path, and whether a watch is left there.
+pub(crate) fn write_watched(
+    writer: &mut Writer,
+    path: &Option<Text>,
+    watch: bool,
+) -> Result<(), NoMemory>
     ensures { OnOk result (Wrote watcheds (record { path = path.now; watch = watch }) writer.old writer.new) }
 {
     write_text(writer, path)?;
@@ -181,7 +198,8 @@ pub fn write_watched(writer: &mut Writer, path: &Option<Text>, watch: bool) -> R
     Ok(())
 }
 
-pub fn write_setting(
+/// Writes the fields of a setting of data.
+pub(crate) fn write_setting(
     writer: &mut Writer,
     path: &Option<Text>,
     bytes: &Option<Bytes>,
@@ -195,7 +213,8 @@ pub fn write_setting(
     Ok(())
 }
 
-pub fn write_acl_setting(
+/// Writes the fields of a setting of an access list.
+pub(crate) fn write_acl_setting(
     writer: &mut Writer,
     path: &Option<Text>,
     acl: &Option<WireAcls>,
@@ -209,7 +228,8 @@ pub fn write_acl_setting(
     Ok(())
 }
 
-pub fn write_showing(
+/// Writes what a client shows of itself.
+pub(crate) fn write_showing(
     writer: &mut Writer,
     kind: i32,
     scheme: &Option<Text>,
@@ -223,7 +243,8 @@ pub fn write_showing(
     Ok(())
 }
 
-pub fn write_watches(
+/// Writes the watches that a client had.
+pub(crate) fn write_watches(
     writer: &mut Writer,
     zxid: i64,
     contents: &Option<WireTexts>,

@@ -7,9 +7,10 @@ ghost use Rattle.kp_wire.specs.Kinds.{kind_of, plain_kind_of, kind_number, kind_
 
 use crate::op_kind::{OpKind, op_kind_from, op_number};
 use kp_jute::{JuteFail, NoMemory, Reader, Writer};
+use std::alloc::AllocError;
 
 /// The type of a request: one of the table's, or any other number.
-#[derive(Clone, Copy, Debug)]
+#[derive(Clone, Copy)]
 pub enum Kind {
     /// One that a multi may hold too.
     Op(OpKind),
@@ -26,7 +27,7 @@ pub enum Kind {
 }
 
 /// A type that looks at a path and may leave a watch there.
-#[derive(Clone, Copy, Debug)]
+#[derive(Clone, Copy)]
 pub enum LookKind {
     Exists,
     GetData,
@@ -34,9 +35,9 @@ pub enum LookKind {
     GetChildren2,
 }
 
-// The type of that number.
+/// The type of that number.
 #[tactic(auto, unfolding(crate::specs::Kinds::kind_of))]
-pub fn kind_from(number: i32) -> Kind
+pub(crate) fn kind_from(number: i32) -> Kind
     ensures { result ≡ kind_of number }
 {
     match op_kind_from(number) {
@@ -78,8 +79,8 @@ fn plain_kind_from(number: i32) -> Kind
     }
 }
 
-// The type's number.
-pub fn number_of(kind: Kind) -> i32
+/// The type's number.
+pub(crate) fn number_of(kind: Kind) -> i32
     ensures { result ≡ kind_number kind }
 {
     match kind {
@@ -108,20 +109,20 @@ fn look_number(kind: LookKind) -> i32
     }
 }
 
-// Reads a type.
-pub fn read_kind(reader: &mut Reader<'_>) -> Result<Kind, JuteFail>
+/// Reads a type.
+pub(crate) fn read_kind(reader: &mut Reader<'_>) -> Result<Kind, JuteFail>
     ensures { Gives (λ k. k) result reader.new (kind_forms.read reader.old) }
 {
     let number = reader.int()?;
     Ok(kind_from(number))
 }
 
-// Writes a type. Answers `NoMemory` also for an other type whose number has a row.
-pub fn write_kind(writer: &mut Writer, kind: Kind) -> Result<(), NoMemory>
+/// Writes a type. Answers `NoMemory` also for an other type whose number has a row.
+pub(crate) fn write_kind(writer: &mut Writer, kind: Kind) -> Result<(), NoMemory>
     ensures { OnOk result (Wrote kind_forms kind writer.old writer.new) }
 {
     if !is_as_named(kind) {
-        return Err(NoMemory);
+        return Err(AllocError);
     }
     writer.int(number_of(kind))
 }

@@ -3,8 +3,6 @@
 #![tactic(auto)]
 
 mod acl;
-#[cfg(test)]
-mod answer_tests;
 mod connect;
 mod copy;
 mod copy_field;
@@ -24,8 +22,6 @@ mod promises;
 mod read;
 mod reply;
 mod request;
-#[cfg(test)]
-mod request_tests;
 mod result;
 mod stat;
 mod value;

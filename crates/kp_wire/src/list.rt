@@ -7,7 +7,7 @@ ghost use Rattle.kp_jute.specs.Jute.{items_at, vectors, vector_at};
 use crate::value::{read_text, write_text};
 use kp_jute::{JuteFail, NoMemory, Reader, Writer};
 use kp_model::{Items, Text};
-use std::alloc::Global;
+use std::alloc::{AllocError, Global};
 
 /// The greatest count that its int can hold.
 const MOST: usize = 0x7fff_ffff;
@@ -39,9 +39,9 @@ impl Element for Option<Text> {
     }
 }
 
-// Reads a vector. Its memory grows with the elements that are there, whatever the count says.
+/// Reads a vector. Its memory grows with the elements that are there, whatever the count says.
 #[tactic(auto, unfolding(kp_jute::specs::Jute::vector_at))]
-pub fn read_vector<T: Element + Drop>(
+pub(crate) fn read_vector<T: Element + Drop>(
     alloc: Global,
     reader: &mut Reader<'_>,
 ) -> Result<Option<Items<T>>, JuteFail>
@@ -71,8 +71,8 @@ fn read_items<T: Element + Drop>(
     Ok(items)
 }
 
-// Writes a vector.
-pub fn write_vector<T: Element>(
+/// Writes a vector.
+pub(crate) fn write_vector<T: Element>(
     writer: &mut Writer,
     list: &Option<Items<T>>,
 ) -> Result<(), NoMemory>
@@ -84,12 +84,12 @@ pub fn write_vector<T: Element>(
     }
 }
 
-// Writes a vector that is there.
-pub fn write_list<T: Element>(writer: &mut Writer, list: &Items<T>) -> Result<(), NoMemory>
+/// Writes a vector that is there.
+pub(crate) fn write_list<T: Element>(writer: &mut Writer, list: &Items<T>) -> Result<(), NoMemory>
     ensures { OnOk result (Wrote (vectors T.form) (Some list.now) writer.old writer.new) }
 {
     if list.len() > MOST {
-        return Err(NoMemory);
+        return Err(AllocError);
     }
     writer.count(Some(list.len() as u32))?;
     write_items(writer, list.as_slice())?;

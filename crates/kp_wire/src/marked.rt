@@ -25,9 +25,9 @@ pub trait Marked: Sized {
         ensures { OnOk result (Wrote form None writer.old writer.new) };
 }
 
-// Reads such a list with its end mark.
+/// Reads such a list with its end mark.
 #[tactic(auto, using(crate::proofs::MarkedLists::behind_none))]
-pub fn read_marked<T: Marked + Drop>(
+pub(crate) fn read_marked<T: Marked + Drop>(
     alloc: Global,
     reader: &mut Reader<'_>,
 ) -> Result<Vec<T>, JuteFail>
@@ -36,8 +36,8 @@ pub fn read_marked<T: Marked + Drop>(
     read_marked_behind(alloc, reader, Vec::new(alloc))
 }
 
-// Reads such a list with its end mark, and puts it behind what was read before.
-pub fn read_marked_behind<T: Marked + Drop>(
+/// Reads such a list with its end mark, and puts it behind what was read before.
+pub(crate) fn read_marked_behind<T: Marked + Drop>(
     alloc: Global,
     reader: &mut Reader<'_>,
     before: Vec<T>,
@@ -67,8 +67,8 @@ fn read_steps<T: Marked + Drop>(
     Err(JuteFail::Short { at: reader.place() })
 }
 
-// Writes such a list with its end mark.
-pub fn write_marked<T: Marked>(writer: &mut Writer, items: &[T]) -> Result<(), NoMemory>
+/// Writes such a list with its end mark.
+pub(crate) fn write_marked<T: Marked>(writer: &mut Writer, items: &[T]) -> Result<(), NoMemory>
     ensures { OnOk result (Wrote (untils T.form) items.now writer.old writer.new) }
 {
     write_steps(writer, items)?;

@@ -4,6 +4,7 @@ ghost use Rattle.std.specs.Prelude.{◌≡◌, Some, OnOk};
 ghost use Rattle.kp_jute.specs.Form.{Gives, Wrote};
 ghost use Rattle.kp_jute.specs.Jute.{fixed_ints, fixed_booleans};
 ghost use Rattle.kp_wire.specs.declared.request.WireOp.TheVariants as ops;
+ghost use Rattle.kp_wire.specs.OpKinds.{op_number as op_number_of};
 ghost use Rattle.kp_wire.specs.Request.{op_at, op_kind, step_kinds, step_number, marks, WroteOp};
 
 use crate::fields::{
@@ -72,9 +73,9 @@ fn read_mark(reader: &mut Reader<'_>, last: bool) -> Result<(), JuteFail>
     Ok(())
 }
 
-// Reads an int that has only one value.
+/// Reads an int that has only one value.
 #[tactic(auto, using(crate::proofs::Differ::differ))]
-pub fn fixed_int(reader: &mut Reader<'_>, value: i32) -> Result<(), JuteFail>
+pub(crate) fn fixed_int(reader: &mut Reader<'_>, value: i32) -> Result<(), JuteFail>
     ensures { Gives (λ u. u) result reader.new ((fixed_ints value).read reader.old) }
 {
     let at = reader.place();
@@ -84,8 +85,8 @@ pub fn fixed_int(reader: &mut Reader<'_>, value: i32) -> Result<(), JuteFail>
     Ok(())
 }
 
-// Reads a boolean that has only one value.
-pub fn fixed_boolean(reader: &mut Reader<'_>, value: bool) -> Result<(), JuteFail>
+/// Reads a boolean that has only one value.
+pub(crate) fn fixed_boolean(reader: &mut Reader<'_>, value: bool) -> Result<(), JuteFail>
     ensures { Gives (λ u. u) result reader.new ((fixed_booleans value).read reader.old) }
 {
     let at = reader.place();
@@ -95,8 +96,12 @@ pub fn fixed_boolean(reader: &mut Reader<'_>, value: bool) -> Result<(), JuteFai
     Ok(())
 }
 
-// Reads the fields of an operation of that type.
-pub fn read_op(alloc: Global, reader: &mut Reader<'_>, kind: OpKind) -> Result<WireOp, JuteFail>
+/// Reads the fields of an operation of that type.
+pub(crate) fn read_op(
+    alloc: Global,
+    reader: &mut Reader<'_>,
+    kind: OpKind,
+) -> Result<WireOp, JuteFail>
     ensures { Gives (λ o. o) result reader.new (op_at kind reader.old) }
 {
     match kind {
@@ -187,6 +192,15 @@ fn write_mark(writer: &mut Writer, last: bool) -> Result<(), NoMemory>
     writer.boolean(last)?;
     writer.int(END)?;
     Ok(())
+}
+
+impl WireOp {
+    /// The number of the operation's type.
+    pub fn number(&self) -> i32
+        ensures { result ≡ op_number_of (op_kind self.now) }
+    {
+        op_number(kind_of_op(self))
+    }
 }
 
 fn kind_of_op(op: &WireOp) -> OpKind

@@ -4,7 +4,7 @@ ghost use Rattle.std.specs.Prelude.{◌≡◌};
 ghost use Rattle.kp_wire.specs.OpKinds.{op_named, op_number};
 
 /// The type of an operation of a multi.
-#[derive(Clone, Copy, Debug)]
+#[derive(Clone, Copy)]
 pub enum OpKind {
     Create,
     Delete,
@@ -13,9 +13,9 @@ pub enum OpKind {
     Create2,
 }
 
-// The type of that number, None where a multi may hold none.
+/// The type of that number, None where a multi may hold none.
 #[tactic(auto, using(crate::proofs::Differ::differ), unfolding(crate::specs::OpKinds::op_named))]
-pub fn op_kind_from(number: i32) -> Option<OpKind>
+pub(crate) fn op_kind_from(number: i32) -> Option<OpKind>
     ensures { result ≡ op_named number }
 {
     match number {
@@ -28,8 +28,8 @@ pub fn op_kind_from(number: i32) -> Option<OpKind>
     }
 }
 
-// The type's number.
-pub fn op_number(kind: OpKind) -> i32
+/// The type's number.
+pub(crate) fn op_number(kind: OpKind) -> i32
     ensures { result ≡ op_number kind }
 {
     match kind {

@@ -14,10 +14,10 @@ use crate::multi::fixed_int;
 use crate::reply::{Shape, WireReply, read_reply, shape_from, write_answer};
 use kp_jute::{JuteFail, NoMemory as Unwritten, Reader, Writer};
 use kp_model::{Bytes, Event, NoMemory};
-use std::alloc::Global;
+use std::alloc::{AllocError, Global};
 
 /// What the server sends on a live connection.
-#[derive(Debug, Drop)]
+#[derive(Drop)]
 pub enum Packet {
     /// The answer to the request with that xid, and the index of the last entry that it shows. They aren't
     /// both -1.
@@ -94,7 +94,7 @@ fn read_whole(alloc: Global, shape: Shape, frame: &[u8]) -> Result<Packet, JuteF
 }
 
 // The numbers before the code.
-#[derive(Clone, Copy, Debug)]
+#[derive(Clone, Copy)]
 struct Header {
     xid: i32,
     zxid: i64,
@@ -181,7 +181,7 @@ fn write_asked(writer: &mut Writer, header: Header, reply: &WireReply) -> Result
     ensures { OnOk result ((s : Shape) → HasShape s reply.now → Wrote (answers s) (Packet.Reply header.xid header.zxid reply.now) writer.old writer.new) }
 {
     if fires(header) {
-        return Err(Unwritten);
+        return Err(AllocError);
     }
     write_header(writer, header)?;
     write_answer(writer, reply)?;

@@ -92,7 +92,8 @@ fn read_rest(alloc: Global, reader: &mut Reader<'_>) -> Result<Bytes, JuteFail>
     Ok(Bytes::from_vec(Vec::from_slice(alloc, rest)?))
 }
 
-pub fn ask_of_op(op: WireOp) -> WireAsk
+/// The request of an operation that stands by itself.
+pub(crate) fn ask_of_op(op: WireOp) -> WireAsk
     ensures { result ≡ form.ask_of_op op }
 {
     match op {
@@ -132,7 +133,8 @@ pub fn ask_of_op(op: WireOp) -> WireAsk
     }
 }
 
-pub fn look(kind: LookKind, fields: Watched) -> WireAsk
+/// The request of a look at a node.
+pub(crate) fn look(kind: LookKind, fields: Watched) -> WireAsk
     ensures { result ≡ look_of kind fields }
 {
     let Watched { path, watch } = fields;

@@ -12,10 +12,10 @@ use crate::result::{OpResult, read_multi, write_failures, write_results};
 use crate::stat::{Stat, read_stat, write_stat};
 use kp_jute::{JuteFail, NoMemory, Reader, Writer};
 use kp_model::{Acls, Bytes, Items, Paths, Text};
-use std::alloc::Global;
+use std::alloc::{AllocError, Global};
 
 /// What a request is answered.
-#[derive(Debug, Drop)]
+#[derive(Drop)]
 pub enum WireReply {
     /// An error, by its code, which isn't 0.
     Err(i32),
@@ -42,7 +42,7 @@ pub enum WireReply {
 }
 
 /// What stands behind the code 0 of a reply.
-#[derive(Clone, Copy, Debug)]
+#[derive(Clone, Copy)]
 pub enum Shape {
     Empty,
     Path,
@@ -55,8 +55,8 @@ pub enum Shape {
     Multi,
 }
 
-// The shape of replies to requests of that type.
-pub fn shape_from(kind: i32) -> Shape
+/// The shape of replies to requests of that type.
+pub(crate) fn shape_from(kind: i32) -> Shape
     ensures { result ≡ shape_of kind }
 {
     match kind {
@@ -72,9 +72,9 @@ pub fn shape_from(kind: i32) -> Shape
     }
 }
 
-// Reads a reply to a request whose replies have the shape.
+/// Reads a reply to a request whose replies have the shape.
 #[tactic(auto, using(crate::proofs::ReplySteps::done_is, crate::proofs::ReplySteps::refused_is))]
-pub fn read_reply(
+pub(crate) fn read_reply(
     alloc: Global,
     reader: &mut Reader<'_>,
     shape: Shape,
@@ -130,8 +130,8 @@ fn read_body(alloc: Global, reader: &mut Reader<'_>, shape: Shape) -> Result<Wir
     }
 }
 
-// Writes a reply: its code, and behind the code 0 its body. The code 0 is no error's.
-pub fn write_answer(writer: &mut Writer, reply: &WireReply) -> Result<(), NoMemory>
+/// Writes a reply: its code, and behind the code 0 its body. The code 0 is no error's.
+pub(crate) fn write_answer(writer: &mut Writer, reply: &WireReply) -> Result<(), NoMemory>
     ensures { OnOk result (Wrote (replies (shape_in reply.now)) reply.now writer.old writer.new) }
 {
     if let WireReply::Err(code) = reply {
@@ -147,7 +147,7 @@ fn write_error(writer: &mut Writer, code: &i32) -> Result<(), NoMemory>
     ensures { OnOk result (Wrote (replies (shape_in (WireReply.Err code.now))) (WireReply.Err code.now) writer.old writer.new) }
 {
     if *code == 0 {
-        return Err(NoMemory);
+        return Err(AllocError);
     }
     writer.int(*code)
 }
@@ -157,7 +157,7 @@ fn write_body(writer: &mut Writer, reply: &WireReply) -> Result<(), NoMemory>
     ensures { OnOk result (WroteBody reply.now writer.old writer.new) }
 {
     match reply {
-        WireReply::Err(_) => Err(NoMemory),
+        WireReply::Err(_) => Err(AllocError),
         WireReply::Empty => Ok(()),
         WireReply::Path(path) => write_some_text(writer, path),
         WireReply::PathStat(path, stat) => {

@@ -10,7 +10,7 @@ pub type WireTexts = Items<Option<Text>>;
 pub type WireOps = Items<WireOp>;
 
 /// What a client asks, and the number by which it knows the answer.
-#[derive(Debug, Drop)]
+#[derive(Drop)]
 pub struct Request {
     /// Echoed by the answer. Clients use -2 for a ping, -4 for an auth and -8 for a setWatches.
     pub xid: i32,
@@ -19,7 +19,7 @@ pub struct Request {
 
 /// What is asked, with the fields as they are sent: null and empty are different values. `flags` and `version`
 /// stand for ints in two's complement.
-#[derive(Debug, Drop)]
+#[derive(Drop)]
 pub enum WireAsk {
     /// Type 1: makes a node, and wants its path.
     Create {
@@ -114,7 +114,7 @@ pub enum WireAsk {
 }
 
 /// An operation of a multi, with the fields of the request of that type.
-#[derive(Debug, Drop)]
+#[derive(Drop)]
 pub enum WireOp {
     Create {
         path: Option<Text>,

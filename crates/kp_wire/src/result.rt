@@ -17,13 +17,13 @@ use crate::reply::WireReply;
 use crate::stat::{Stat, read_stat, write_stat};
 use kp_jute::{JuteFail, NoMemory, Reader, Writer};
 use kp_model::{Items, Text};
-use std::alloc::Global;
+use std::alloc::{AllocError, Global};
 
 /// The type of the end mark and of a failure, and the error of the end mark.
 const END: i32 = -1;
 
 /// What an operation of a multi is answered.
-#[derive(Debug, Drop)]
+#[derive(Drop)]
 pub enum OpResult {
     /// A delete or a check was done.
     Empty,
@@ -36,14 +36,14 @@ pub enum OpResult {
 }
 
 /// The type of a mark: that of an operation, or -1.
-#[derive(Clone, Copy, Debug)]
+#[derive(Clone, Copy)]
 pub enum Lead {
     Listed(OpKind),
     Closing,
 }
 
 /// What a mark says: a result follows, no more follow, or an error follows.
-#[derive(Clone, Copy, Debug)]
+#[derive(Clone, Copy)]
 pub enum Mark {
     Listed(OpKind),
     Last,
@@ -230,8 +230,8 @@ fn read_results(
     read_others(alloc, reader, numbered(kind, first))
 }
 
-// Reads the results of a multi. The first mark tells whether they are results or failures.
-pub fn read_multi(alloc: Global, reader: &mut Reader<'_>) -> Result<WireReply, JuteFail>
+/// Reads the results of a multi. The first mark tells whether they are results or failures.
+pub(crate) fn read_multi(alloc: Global, reader: &mut Reader<'_>) -> Result<WireReply, JuteFail>
     ensures { Gives (λ x. x) result reader.new (multi_replies reader.old) }
 {
     let mark = read_mark(reader)?;
@@ -257,7 +257,7 @@ fn write_numbered(writer: &mut Writer, answer: &(i32, OpResult)) -> Result<(), N
 {
     let (number, result) = answer;
     match kind_named(number) {
-        None => Err(NoMemory),
+        None => Err(AllocError),
         Some(kind) => write_result(writer, kind, result),
     }
 }
@@ -298,7 +298,7 @@ fn write_body(writer: &mut Writer, kind: OpKind, answer: &OpResult) -> Result<()
             write_stat(writer, stat)?;
             Ok(())
         }
-        _ => Err(NoMemory),
+        _ => Err(AllocError),
     }
 }
 
@@ -326,21 +326,24 @@ fn write_last(writer: &mut Writer) -> Result<(), NoMemory>
     Ok(())
 }
 
-// Writes the results of a multi, where each is one of an operation of its type.
+/// Writes the results of a multi, where each is one of an operation of its type.
 #[tactic(auto, using(crate::proofs::ResultWrites::wrote_held))]
-pub fn write_results(writer: &mut Writer, results: &Items<(i32, OpResult)>) -> Result<(), NoMemory>
+pub(crate) fn write_results(
+    writer: &mut Writer,
+    results: &Items<(i32, OpResult)>,
+) -> Result<(), NoMemory>
     ensures { OnOk result (Wrote multis (held results.now) writer.old writer.new) }
 {
     write_marked(writer, results.as_slice())
 }
 
-// Writes the codes of a multi that failed, where there is one at least.
+/// Writes the codes of a multi that failed, where there is one at least.
 #[tactic(auto, using(crate::proofs::ResultWrites::wrote_failed))]
-pub fn write_failures(writer: &mut Writer, codes: &Items<i32>) -> Result<(), NoMemory>
+pub(crate) fn write_failures(writer: &mut Writer, codes: &Items<i32>) -> Result<(), NoMemory>
     ensures { OnOk result (Wrote multis (failed codes.now) writer.old writer.new) }
 {
     if codes.len() == 0 {
-        return Err(NoMemory);
+        return Err(AllocError);
     }
     write_marked(writer, codes.as_slice())
 }

@@ -3,12 +3,14 @@
 ghost use Rattle.std.specs.Prelude.{◌≡◌, OnOk};
 ghost use Rattle.kp_jute.specs.Form.{Gives, Wrote};
 ghost use Rattle.kp_wire.specs.Common.{stats, times, versions, sizes, times_of, versions_of, sizes_of};
+ghost use Rattle.kp_wire.specs.Stats.{stat_of};
 
 use kp_jute::{JuteFail, NoMemory, Reader, Writer};
+use kp_model::Meta;
 
 /// The numbers of a node as they are sent. Each stands for a long or an int in two's complement. Indexes
 /// are those of log entries, times are milliseconds.
-#[derive(Clone, Copy, Debug, PartialEq, Eq)]
+#[derive(Clone, Copy)]
 pub struct Stat {
     /// The index of the entry that made the node.
     pub czxid: u64,
@@ -34,8 +36,29 @@ pub struct Stat {
     pub kids: u32,
 }
 
-// Reads a node's numbers.
-pub fn read_stat(reader: &mut Reader<'_>) -> Result<Stat, JuteFail>
+impl Stat {
+    /// The numbers of a node as they are sent.
+    pub fn of(meta: &Meta) -> Stat
+        ensures { result ≡ stat_of meta.now }
+    {
+        Stat {
+            czxid: meta.czxid,
+            mzxid: meta.mzxid,
+            pzxid: meta.pzxid,
+            ctime: meta.ctime,
+            mtime: meta.mtime,
+            version: meta.version,
+            cversion: meta.cversion,
+            aversion: meta.aversion,
+            owner: meta.owner,
+            len: meta.len,
+            kids: meta.kids,
+        }
+    }
+}
+
+/// Reads a node's numbers.
+pub(crate) fn read_stat(reader: &mut Reader<'_>) -> Result<Stat, JuteFail>
     ensures { Gives (λ s. s) result reader.new (stats.read reader.old) }
 {
     let czxid = reader.unsigned_long()?;
@@ -64,8 +87,8 @@ pub fn read_stat(reader: &mut Reader<'_>) -> Result<Stat, JuteFail>
     })
 }
 
-// Writes a node's numbers.
-pub fn write_stat(writer: &mut Writer, stat: &Stat) -> Result<(), NoMemory>
+/// Writes a node's numbers.
+pub(crate) fn write_stat(writer: &mut Writer, stat: &Stat) -> Result<(), NoMemory>
     ensures { OnOk result (Wrote stats stat.now writer.old writer.new) }
 {
     write_times(writer, stat)?;

@@ -8,8 +8,8 @@ use kp_jute::{JuteFail, NoMemory, Reader, Writer};
 use kp_model::{Bytes, Text};
 use std::alloc::Global;
 
-// Reads a text.
-pub fn read_text(alloc: Global, reader: &mut Reader<'_>) -> Result<Option<Text>, JuteFail>
+/// Reads a text.
+pub(crate) fn read_text(alloc: Global, reader: &mut Reader<'_>) -> Result<Option<Text>, JuteFail>
     ensures { Gives (λ t. t) result reader.new (texts.read reader.old) }
 {
     match reader.ustring(alloc)? {
@@ -18,8 +18,8 @@ pub fn read_text(alloc: Global, reader: &mut Reader<'_>) -> Result<Option<Text>,
     }
 }
 
-// Reads a buffer.
-pub fn read_bytes(alloc: Global, reader: &mut Reader<'_>) -> Result<Option<Bytes>, JuteFail>
+/// Reads a buffer.
+pub(crate) fn read_bytes(alloc: Global, reader: &mut Reader<'_>) -> Result<Option<Bytes>, JuteFail>
     ensures { Gives (λ b. b) result reader.new (buffers.read reader.old) }
 {
     match reader.buffer(alloc)? {
@@ -28,8 +28,8 @@ pub fn read_bytes(alloc: Global, reader: &mut Reader<'_>) -> Result<Option<Bytes
     }
 }
 
-// Writes a text.
-pub fn write_text(writer: &mut Writer, text: &Option<Text>) -> Result<(), NoMemory>
+/// Writes a text.
+pub(crate) fn write_text(writer: &mut Writer, text: &Option<Text>) -> Result<(), NoMemory>
     ensures { OnOk result (Wrote texts text.now writer.old writer.new) }
 {
     match text {
@@ -38,8 +38,8 @@ pub fn write_text(writer: &mut Writer, text: &Option<Text>) -> Result<(), NoMemo
     }
 }
 
-// Writes a buffer.
-pub fn write_bytes(writer: &mut Writer, bytes: &Option<Bytes>) -> Result<(), NoMemory>
+/// Writes a buffer.
+pub(crate) fn write_bytes(writer: &mut Writer, bytes: &Option<Bytes>) -> Result<(), NoMemory>
     ensures { OnOk result (Wrote buffers bytes.now writer.old writer.new) }
 {
     match bytes {

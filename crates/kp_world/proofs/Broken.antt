@@ -3,7 +3,7 @@ use Rattle.std.proofs.Common.{◌≡◌, ◌<◌, ◌≤◌, inl, List, [], ◌�
 use Rattle.std.specs.Prelude.{nat_le}
 use mathlib.Core.List.{IsPrefix}
 use Rattle.kp_model.specs.LogEntry.{LogEntry}
-use Rattle.kp_world.specs.Majority.{IsMajority}
+use Rattle.kp_model.specs.Majority.{IsMajority}
 use Rattle.kp_world.specs.Log.{BeginAlike}
 use Rattle.kp_world.specs.Book.{Book, IsCommitted, empty_book}
 use Rattle.kp_world.specs.Moves.{RaiseTerm, Stand, Vote, Elect, Write, Follow, Acknowledge, AreAllowed, IsHistory, MayVote, MayFollow, after_move, book_of}

@@ -4,7 +4,7 @@ use Rattle.std.specs.Prelude.{nat_eq}
 use Rattle.std.proofs.lemmas.Bool.Decides.{nat_tests}
 use mathlib.Core.List.{IsPrefix}
 use Rattle.kp_model.specs.LogEntry.{LogEntry}
-use Rattle.kp_world.specs.Majority.{IsMajority}
+use Rattle.kp_model.specs.Majority.{IsMajority}
 use Rattle.kp_world.specs.Log.{last_term, EndsInTerm}
 use Rattle.kp_world.specs.Book.{Book}
 use Rattle.kp_world.specs.Moves.{MayElect, after_move, Elect}

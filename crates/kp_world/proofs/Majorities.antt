@@ -1,6 +1,6 @@
 -- Majorities by counting: two have a member in common, and a wider test has one where a narrower has.
 use Rattle.std.proofs.Common.{◌≡◌, ℕ, zero, suc, ◌+◌, ◌<◌, ◌≤◌, Bool, true, false, cond, refl, sym, arith, inl, inr, ◌⊎◌, ⊎_elim, subst}
-use Rattle.kp_world.specs.Majority.{count, IsMajority}
+use Rattle.kp_model.specs.Majority.{count, IsMajority}
 
 -- a member that passes f and g
 abbrev pub InBoth : ℕ → (ℕ → Bool) → (ℕ → Bool) → Type 0

@@ -2,7 +2,7 @@
 use Rattle.std.proofs.Common.{◌≡◌, ℕ, ◌<◌, ◌≤◌, Bool, inl, inr, List, [], ◌∷◌, ◌++◌, length, refl, sym, arith, subst}
 use mathlib.Core.List.{IsPrefix}
 use Rattle.kp_model.specs.LogEntry.{LogEntry}
-use Rattle.kp_world.specs.Majority.{count, IsMajority}
+use Rattle.kp_model.specs.Majority.{count, IsMajority}
 use Rattle.kp_world.specs.Log.{IsUpToDate, last_term}
 use Rattle.kp_world.specs.Book.{Book, IsCommitted, empty_book}
 use Rattle.kp_world.specs.Moves.{Move, RaiseTerm, Stand, Vote, Elect, Write, Follow, Acknowledge, AreAllowed, IsHistory, MayFollow, MayAcknowledge, after_move, after_moves, book_of}

@@ -2,7 +2,7 @@
 -- It is the state of no program. Nothing is ever struck out of it but the end of a member's log.
 use Rattle.std.specs.Prelude.{ℕ, cond, nat_eq, nat_le, List, [], length}
 use Rattle.kp_model.specs.LogEntry.{LogEntry}
-use Rattle.kp_world.specs.Majority.{IsMajority}
+use Rattle.kp_model.specs.Majority.{IsMajority}
 use Rattle.kp_world.specs.Log.{EndsInTerm}
 
 pub record Book : Type 0 where

@@ -3,7 +3,7 @@ use Rattle.std.specs.Prelude.{ℕ, ◌≡◌, nat_le, List, [], ◌∷◌, ◌++
 use mathlib.Core.List.{IsPrefix}
 use Rattle.kp_model.specs.LogEntry.{LogEntry}
 use Rattle.kp_model.specs.declared.entry.Body.TheVariants as body
-use Rattle.kp_world.specs.Majority.{IsMajority}
+use Rattle.kp_model.specs.Majority.{IsMajority}
 use Rattle.kp_world.specs.Log.{BeginAlike}
 use Rattle.kp_world.specs.Book.{Book, IsCommitted}
 use Rattle.kp_world.specs.Moves.{Move, RaiseTerm, Stand, Vote, Elect, Write, Follow, Acknowledge, MayVote, MayFollow, AreAllowed, IsHistory, after_move, after_moves, book_of}

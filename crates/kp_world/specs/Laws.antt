@@ -3,7 +3,7 @@
 use Rattle.std.specs.Prelude.{ℕ, suc, ◌≡◌, ◌<◌, nat_eq, List, ◌++◌, take, slice_get, Some}
 use mathlib.Core.List.{IsPrefix}
 use Rattle.kp_model.specs.LogEntry.{LogEntry}
-use Rattle.kp_world.specs.Majority.{IsMajority}
+use Rattle.kp_model.specs.Majority.{IsMajority}
 use Rattle.kp_world.specs.Log.{BeginAlike}
 use Rattle.kp_world.specs.Book.{IsCommitted}
 use Rattle.kp_world.specs.Moves.{Move, IsHistory, book_of}

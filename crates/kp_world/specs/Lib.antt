@@ -1,4 +1,3 @@
-pub mod Majority
 pub mod Log
 pub mod Book
 pub mod Moves

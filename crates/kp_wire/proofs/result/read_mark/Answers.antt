@@ -1,6 +1,6 @@
 use Rattle.std.proofs.Common.{◌≡◌, subst, Ok}
 use Rattle.std.proofs.lemmas.Result.{err_from_is_err_and}
-use Rattle.kp_wire.specs.OpResults.{lead_forms, all_marks, closed}
+use Rattle.kp_wire.specs.OpResults.{lead_forms}
 use Rattle.kp_wire.proofs.ResultSteps.{listed_mark, closing_ok, closing_fails}
 use Rattle.kp_wire.proofs.result.read_mark.Goals as goal
 

@@ -1,29 +1,27 @@
-use Rattle.std.proofs.Common.{◌≡◌, ◌++◌, ap, sym, ◌∙◌, take, false}
-use Rattle.std.proofs.lemmas.List.{append-nil}
-use Rattle.kp_entry.specs.Keeping.{records_in}
-use Rattle.kp_entry.specs.Records.{has_base}
-use Rattle.kp_entry.proofs.Kepts.{goes_on, stays_open, is_joined, is_undone, was_ok, was_err}
+use Rattle.std.proofs.Common.{ap, sym, ◌∙◌, ◌≤◌, ◌++◌, take, drop, append-nil, arith, List, length}
+use Rattle.kp_entry.specs.declared.record.Record.{Record}
+use Rattle.kp_entry.proofs.Runs.{was_ok, was_err, taken_next, whole_taken, more_added, open_behind, part_open, is_undone}
 use Rattle.kp_entry.proofs.records.Records.join.Goals as goal
 
-pub loop-kept-init : goal.loop-kept-init
-loop-kept-init c = record { so_far = sym (append-nil c.args.self.now); unended = c.requires.here }
+pub loop-index-init : goal.loop-index-init
+loop-index-init c = record { so_far = sym (append-nil c.args.self.now); unended = c.requires.here }
 
-pub push-requires : goal.push-requires
-push-requires c = c.loop-kept.invariant.unended
+pub copy_at-requires-clause-none : goal.copy_at-requires-clause-none
+copy_at-requires-clause-none c = c.loop-index.invariant.unended
 
 pub returns-then-is_err-clause-err : goal.returns-then-is_err-clause-err
 returns-then-is_err-clause-err c =
-    c.keep.ensures ∙ is_undone c.args.self.now (records_in (take c.loop-kept.kept-index c.deref-kept-items.result.now)) c.loop-kept.self c.push.new.self c.len-len.result c.len-len.ensures c.loop-kept.invariant.so_far (was_err c.push.result (sym c.is_err.ensures.value ∙ c.if-is_err.true) c.push.ensures.err)
+    c.keep.ensures ∙ is_undone c.args.self.now (take c.loop-index.index c.args.more.now) c.loop-index.self c.copy_at.new.self c.len-len.result c.len-len.ensures c.loop-index.invariant.so_far (was_err c.copy_at.result (sym c.is_err.ensures.value ∙ c.if-is_err.true) c.copy_at.ensures.err)
 
-pub loop-kept-preserved : goal.loop-kept-preserved
-loop-kept-preserved c =
-    let added = was_ok c.push.result (sym c.is_err.ensures.value ∙ c.if-is_err.false) c.push.ensures.ok in
-    let none : has_base (records_in c.deref-kept-items.result.now) ≡ false = ap (λ ks. has_base (records_in ks)) c.deref-kept-items.ensures.value ∙ ap has_base c.more.view_is ∙ c.requires.there in
+pub loop-index-preserved : goal.loop-index-preserved
+loop-index-preserved c =
+    let added = was_ok c.copy_at.result (sym c.is_err.ensures.value ∙ c.if-is_err.false) c.copy_at.ensures.ok in
     record {
-      so_far = goes_on c.args.self.now c.loop-kept.self c.push.new.self c.deref-kept-items.result.now c.loop-kept.kept-index c.kept-item.result c.loop-kept-test.true c.kept-item.is c.loop-kept.invariant.so_far added;
-      unended = stays_open c.loop-kept.self c.push.new.self c.deref-kept-items.result.now c.loop-kept.kept-index c.kept-item.result c.loop-kept.invariant.unended none c.loop-kept-test.true c.kept-item.is added;
+      so_far = more_added c.args.self.now (take c.loop-index.index c.args.more.now) (take 1 (drop c.loop-index.index c.args.more.now)) _ c.loop-index.self c.copy_at.new.self c.loop-index.invariant.so_far added (taken_next c.loop-index.index c.args.more.now);
+      unended = open_behind c.loop-index.self (take 1 (drop c.loop-index.index c.args.more.now)) c.copy_at.new.self c.loop-index.invariant.unended (part_open c.loop-index.index c.args.more.now c.requires.there) added;
     }
 
 pub returns-clause-ok : goal.returns-clause-ok
 returns-clause-ok c =
-    is_joined c.args.self.now c.loop-kept.self c.deref-kept-items.result.now c.loop-kept.kept-index c.loop-kept.invariant.so_far c.loop-kept-test.false ∙ ap (λ ks. c.args.self.now ++ records_in ks) c.deref-kept-items.ensures.value ∙ ap (λ rs. c.args.self.now ++ rs) c.more.view_is
+    let all : length c.args.more.now ≤ c.loop-index.index = omega (arith, c.loop-index-test.false, c.len-count.ensures) in
+    c.loop-index.invariant.so_far ∙ ap (λ (rs : List Record). c.args.self.now ++ rs) (whole_taken c.loop-index.index c.args.more.now all)

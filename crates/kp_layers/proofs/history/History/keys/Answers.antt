@@ -28,7 +28,7 @@ returns g c =
     let none : c.loop-key.key-iterator ≡ [] = rest_all deref _ _ _ c.in-None.is c.next.ensures.steps in
     let all : c.into_iter-key-iterator.result ≡ c.keys-key-items.result = c.into_iter-key-iterator.ensures.into_iter_gives in
     keys_are c.args.level c.args.self.now c.into_iter-key-iterator.result _ _
-    (λ q. ap (λ p. is_known p q) (sym c.self.view_is) ∙ sym (cell_is _ _ _ q c.self.invariant.chains) ∙ c.keys-key-items.ensures.has q ∙ ap (list_any (nat_eq q)) (sym all))
+    (λ q. ap (λ p. is_known p q) (sym c.self.view_is) ∙ sym (cell_is _ _ _ q c.self.invariant.0.chains) ∙ c.keys-key-items.ensures.has q ∙ ap (list_any (nat_eq q)) (sym all))
     (subst (IsDistinct nat_eq) (sym (all ∙ c.keys-key-items.ensures.rest)) c.keys-key-items.ensures.unique)
     (walk_ends (map.contains_key (at_level c.args.level c.args.self.now)) _ _ _ c.loop-key.invariant none)
     c.in_order.ensures

@@ -1,0 +1,9 @@
+//! Tests of the top calls: what whole runs print, and in which status they end. There is nothing else in this crate.
+#![tactic(auto)]
+
+#[cfg(test)]
+mod long_multi;
+#[cfg(test)]
+mod rows;
+#[cfg(test)]
+mod runs;

@@ -1,5 +1,0 @@
-use Rattle.kp_turn.specs.TurnSeats.{IsSeatOf}
-use Rattle.kp_turn.proofs.tests.call.Given as goal
-
-abbrev pub invariant-loop-k : goal.invariant-loop-k
-invariant-loop-k g l = IsSeatOf l.turn l.seat

@@ -3,3 +3,4 @@ pub mod Spots
 pub mod Owners
 pub mod Numbered
 pub mod Indexed
+pub mod Gone

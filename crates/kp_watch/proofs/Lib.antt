@@ -5,3 +5,4 @@ pub mod Listed
 pub mod Numbering
 pub mod Paired
 pub mod Cleared
+pub mod Fires

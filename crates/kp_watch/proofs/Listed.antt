@@ -19,7 +19,6 @@ both : (a b : Bool) → T a → T b → T (a && b)
 both true b h g = g
 both false b h g = h
 
-
 -- the same test on both sides
 pub any_same : {K : Type 0} (f g : K → Bool) → ((x : K) → f x ≡ g x) → (xs : List K) → list_any f xs ≡ list_any g xs
 any_same f g h [] = refl

@@ -1,5 +1,5 @@
 -- Watches: which connection hears of which path, and what events make of them.
-use Rattle.std.specs.Prelude.{ℕ, ℤ, pos, negsuc, Bool, true, false, not, ◌&&◌, ◌==◌, nat_eq, nat_lt, if◌then◌else◌, List, [], ◌∷◌, ◌++◌, map, Option, Some, None}
+use Rattle.std.specs.Prelude.{ℕ, ℤ, pos, negsuc, Bool, true, false, not, ◌&&◌, ◌==◌, nat_eq, nat_lt, if◌then◌else◌, List, [], ◌∷◌, ◌++◌, map, Option, Some, None, slice_get}
 use Rattle.std.specs.List.{list_any, filter}
 use Rattle.std.specs.Str.{bytes_eq}
 use Rattle.std.specs.FinMap as map
@@ -8,6 +8,7 @@ use Rattle.kp_model.specs.declared.reply.Event.TheVariants as event
 use Rattle.kp_model.specs.declared.node.Node.{Node}
 use Rattle.kp_model.specs.State.{Nodes}
 use Rattle.kp_watch.specs.declared.watch.Watch.{Watch}
+use Rattle.kp_watch.specs.declared.watch.Fired.{Fired}
 use Rattle.kp_watch.specs.declared.kind.Kind.{Kind}
 use Rattle.kp_watch.specs.declared.kind.Kind.TheVariants as kind
 
@@ -71,6 +72,17 @@ pairs_of ws e = map (λ c. (c, e)) (hearing ws e)
 unfoldable pub fired : List Watch → List Event → Firing
 fired ws [] = record { pairs = []; left = ws }
 fired ws (e ∷ es) = let rest = fired (unfired ws e) es in record { pairs = pairs_of ws e ++ rest.pairs; left = rest.left }
+
+-- the connection hears of the event at the place
+unfoldable pub heard_at : ℕ → ℕ → Fired
+heard_at at c = record { conn = c; at = at }
+
+-- who hears of which event, by the places of the events, as pairs
+abbrev pub shown : List Event → List Fired → List (ℕ × Option Event)
+shown es fs = map (λ (f : Fired). (f.conn, slice_get es f.at)) fs
+
+abbrev pub somes : List (ℕ × Event) → List (ℕ × Option Event)
+somes ps = map (λ (p : ℕ × Event). (p.0, Some p.1)) ps
 
 -- ---- setWatches: what changed since an index fires at once, other watches are set
 

@@ -15,5 +15,8 @@ pub enum Kind {
 pub fn same_kind(a: Kind, b: Kind) -> bool
     ensures { result ≡ same_kind a b }
 {
-    matches!((a, b), (Kind::Data, Kind::Data) | (Kind::Child, Kind::Child))
+    matches!(
+        (a, b),
+        (Kind::Data, Kind::Data) | (Kind::Child, Kind::Child)
+    )
 }

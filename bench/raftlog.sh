@@ -5,11 +5,11 @@
 set -e
 program=$1
 folder=$(mktemp -d)
-rustc -O -o "$folder/raftlog" "$(dirname "$0")/raftlog.rs"
+rustc --edition 2021 -O -o "$folder/raftlog" "$(dirname "$0")/raftlog.rs"
 for each in "$program" "$folder/raftlog"; do
     best=
     for _ in 1 2 3 4 5; do
-        spent=$(/bin/sh -c '"$1" 20000 > "$2"; times' sh "$each" "$folder/said" | tail -1 | cut -d' ' -f1)
+        spent=$(/bin/sh -c '"$1" 20000 > "$2"; times' sh "$each" "$folder/said" | tail -1 | cut -d" " -f1)
         seconds=$(echo "$spent" | sed 's/m/ /; s/s//' | awk '{ print $1 * 60 + $2 }')
         if [ -z "$best" ] || [ "$(echo "$seconds $best" | awk '{ print ($1 < $2) }')" = 1 ]; then best=$seconds; fi
     done

@@ -4,6 +4,7 @@
 mod answer;
 mod asked;
 mod given;
+mod parts;
 
 pub use answer::{answer_to, told_to};
 pub use asked::{command, question, wants_watch};

@@ -1,0 +1,10 @@
+pub mod Agreeing
+pub mod Beats
+pub mod Elected
+pub mod Greatest
+pub mod HeldUp
+pub mod Lists
+pub mod Proposed
+pub mod Replays
+pub mod Sanity
+pub mod StepFacts

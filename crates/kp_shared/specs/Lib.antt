@@ -1,0 +1,9 @@
+pub mod TaskSteps
+pub mod Tasks
+pub mod Plans
+pub mod Ends
+pub mod Nodes
+pub mod Turns
+pub mod Posts
+pub mod Sharing
+pub mod TaskLaws

@@ -53,13 +53,21 @@ fn gives(alloc: Global, shown: &[&str], lines: &[Line], right: u32) -> Result<bo
 
 const OTHERS: [Line; 2] = [(31, "ip", "u:x"), (1, "digest", "u:x")];
 
+// Ids that were shown, a list, a right, and whether it is given.
+const GIVES: [(&[&str], &[Line], u32, bool); 4] = [
+    (&[], &[WORLD], 16, true),
+    (&["v:y", "u:x"], &OTHERS, 1, true),
+    (&["v:y", "u:x"], &OTHERS, 2, false),
+    (&[], &OTHERS, 1, false),
+];
+
 #[test]
 fn a_line_gives_rights_to_everyone_or_to_an_id(rt: HostRuntime) -> Result<(), Fail> {
-    let alloc = rt.alloc();
-    assert!(rt; gives(alloc, &[], &[WORLD], 16)?);
-    assert!(rt; gives(alloc, &["v:y", "u:x"], &OTHERS, 1)?);
-    assert!(rt; !gives(alloc, &["v:y", "u:x"], &OTHERS, 2)?);
-    assert!(rt; !gives(alloc, &[], &OTHERS, 1)?);
+    let mut same = true;
+    for (shown, lines, right, given) in GIVES {
+        same = same && gives(rt.alloc(), shown, lines, right)? == given;
+    }
+    assert!(rt; same);
     Ok(())
 }
 

@@ -151,7 +151,13 @@ fn is_fired(alloc: Global, event: &Event, packet: &[u8]) -> bool {
 }
 
 fn is_copied(alloc: Global, packet: &Packet) -> bool {
-    packet.copy(alloc).is_ok()
+    match packet.copy(alloc) {
+        Err(_) => false,
+        Ok(copy) => {
+            drop(copy);
+            true
+        }
+    }
 }
 
 // Whether what was read is written as the packet and can be copied.

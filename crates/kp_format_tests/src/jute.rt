@@ -45,13 +45,22 @@ fn reads_a_create_request(rt: HostRuntime) -> Result<(), JuteFail> {
     Ok(())
 }
 
+// Whether there is a null buffer next.
+fn reads_null(alloc: Global, reader: &mut Reader<'_>) -> Result<bool, JuteFail> {
+    let bytes = reader.buffer(alloc)?;
+    let null = bytes.is_none();
+    drop(bytes);
+    Ok(null)
+}
+
+fn reads_connect(alloc: Global, reader: &mut Reader<'_>) -> Result<bool, JuteFail> {
+    let head = reader.long()? == 1 && reader.int()? == 30_000;
+    Ok(head && reads_null(alloc, reader)? && reader.boolean()?)
+}
+
 #[test]
 fn reads_a_connect_request(rt: HostRuntime) -> Result<(), JuteFail> {
-    let mut reader = Reader::new(CONNECT);
-    assert!(rt; reader.long()? == 1);
-    assert!(rt; reader.int()? == 30_000);
-    assert!(rt; reader.buffer(rt.alloc())?.as_deref() == None);
-    assert!(rt; reader.boolean()?);
+    assert!(rt; reads_connect(rt.alloc(), &mut Reader::new(CONNECT))?);
     Ok(())
 }
 
@@ -94,32 +103,57 @@ fn writes_what_is_sent(rt: HostRuntime) -> Result<(), NoMemory> {
 // A packet of five bytes, and one byte behind it.
 const PACKET: &[u8] = b"\0\0\0\x05\xff\xff\xff\xfe\x07\x09";
 
+// Whether a number stands first in the packet, with something behind it.
+fn reads_first(packet: &mut Reader<'_>) -> Result<bool, JuteFail> {
+    let first = packet.unsigned_int()? == 0xffff_fffe && packet.place() == 8;
+    Ok(first && matches!(packet.end(), Err(JuteFail::BadByte { at: 8 })))
+}
+
+// Whether one byte is last in the packet.
+fn reads_last(packet: &mut Reader<'_>) -> Result<bool, JuteFail> {
+    let last = packet.take(2).is_err() && packet.take(1)? == &[7][..];
+    Ok(last && packet.end().is_ok())
+}
+
+// Whether one byte stands behind the packet.
+fn ends_behind(reader: &mut Reader<'_>) -> Result<bool, JuteFail> {
+    let behind = reader.rest() == &[9][..] && reader.take_rest() == &[9][..];
+    Ok(behind && reader.end().is_ok())
+}
+
 #[test]
 fn reads_a_packet_by_itself(rt: HostRuntime) -> Result<(), JuteFail> {
     let mut reader = Reader::new(PACKET);
     let mut packet = reader.packet()?;
-    assert!(rt; packet.remaining() == 5);
-    assert!(rt; packet.unsigned_int()? == 0xffff_fffe);
-    assert!(rt; packet.place() == 8);
-    assert!(rt; packet.end() == Err(JuteFail::BadByte { at: 8 }));
-    assert!(rt; packet.take(2).is_err());
-    assert!(rt; packet.take(1)? == &[7][..]);
-    packet.end()?;
-    assert!(rt; reader.rest() == &[9][..]);
-    assert!(rt; reader.take_rest() == &[9][..]);
-    reader.end()?;
+    assert!(rt; packet.remaining() == 5 && reads_first(&mut packet)?);
+    assert!(rt; reads_last(&mut packet)? && ends_behind(&mut reader)?);
     assert!(rt; Reader::new(&PACKET[1..]).unsigned_long()? == 0x05ff_ffff_fe07);
     Ok(())
 }
 
-#[test]
-fn writes_a_packet(rt: HostRuntime) -> Result<(), NoMemory> {
-    let mut writer = Writer::for_packet(rt.alloc())?;
+// Whether a packet is written as it stands above.
+fn is_packet(alloc: Global) -> Result<bool, NoMemory> {
+    let mut writer = Writer::for_packet(alloc)?;
     writer.unsigned_int(0xffff_fffe)?;
     writer.raw(&[7])?;
-    assert!(rt; &writer.finish_packet()?[..] == &PACKET[..9]);
-    let mut writer = Writer::new(rt.alloc());
+    let packet = writer.finish_packet()?;
+    let same = packet.as_slice() == &PACKET[..9];
+    drop(packet);
+    Ok(same)
+}
+
+fn is_long(alloc: Global) -> Result<bool, NoMemory> {
+    let mut writer = Writer::new(alloc);
     writer.unsigned_long(0x0100_0000_0000_00ff)?;
-    assert!(rt; &writer.finish()[..] == &b"\x01\0\0\0\0\0\0\xff"[..]);
+    let bytes = writer.finish();
+    let same = bytes.as_slice() == b"\x01\0\0\0\0\0\0\xff".as_slice();
+    drop(bytes);
+    Ok(same)
+}
+
+#[test]
+fn writes_a_packet(rt: HostRuntime) -> Result<(), NoMemory> {
+    assert!(rt; is_packet(rt.alloc())?);
+    assert!(rt; is_long(rt.alloc())?);
     Ok(())
 }

@@ -264,7 +264,13 @@ fn is_written(alloc: Global, request: &Request, frame: &[u8]) -> bool {
 }
 
 fn is_copied(alloc: Global, request: &Request) -> bool {
-    request.copy(alloc).is_ok()
+    match request.copy(alloc) {
+        Err(_) => false,
+        Ok(copy) => {
+            drop(copy);
+            true
+        }
+    }
 }
 
 // Whether the frame is read, and what is read is written as the frame and can be copied.

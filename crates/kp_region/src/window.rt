@@ -120,9 +120,7 @@ impl Window {
             dead,
             ..
         } = self;
-        if 0 < dead {
-            take_away(&mut buffer, dead);
-        }
+        take_away(&mut buffer, dead);
         buffer
     }
 }
@@ -134,6 +132,9 @@ fn take_away(buffer: &mut Vec<u8>, dead: usize)
     ensures len { vec_len buffer.new ≡ vec_len buffer.old - dead }
     ensures capacity { vec_capacity buffer.new ≡ vec_capacity buffer.old }
 {
+    if dead == 0 {
+        return;
+    }
     let live = buffer.len() - dead;
     if live <= dead {
         // Nothing overlaps, so the bytes move in one copy.

@@ -55,6 +55,12 @@ module _ {S M : Type 0} where
   ThinkTells may k (Ok t) s s' = (now : ℕ) × may now × (row_of_said t.said ≡ row_of_kind k) × Does (view s) (view s') ((task.Think record { now = now; kind = k }, Ok (answer.Thought t)) ∷ [])
   ThinkTells may k (Err r) s s' = Refuses may (λ now. task.Think record { now = now; kind = k }) r (view s) (view s')
 
+  -- the same, where memory can run out in the node alone
+  abbrev pub ThinkAsks : (ℕ → Type 0) → NodeEventKind M → Result (Thought M) Refusal → TurnSeatIn S M → TurnSeatIn S M → Type 0
+  ThinkAsks may k (Ok t) s s' = ThinkTells may k (Ok t) s s'
+  ThinkAsks may k (Err r) s s' = ((now : ℕ) × (f : KeptFail) × may now × (r ≡ refusal.Failed f) × IsUntorn f × Does (view s) (view s') ((task.Think record { now = now; kind = k }, Err f) ∷ []))
+      ⊎ ((r ≡ refusal.Worn) × IsFull (view s') × Does (view s) (view s') [])
+
   -- all that was thought was kept, or that was refused
   abbrev pub FlushTells : Result ℕ Refusal → TurnSeatIn S M → TurnSeatIn S M → Type 0
   FlushTells (Ok n) s s' = Does (view s) (view s') ((task.Flush, Ok (answer.Kept n)) ∷ [])

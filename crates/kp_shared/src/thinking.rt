@@ -3,7 +3,7 @@ ghost use Rattle.std.specs.Prelude.{◌≡◌};
 ghost use Rattle.kp_event.specs.declared.fail.KeptFail.{KeptFail};
 ghost use Rattle.kp_shared.specs.declared.refusal.Refusal.TheVariants.{Failed};
 ghost use Rattle.kp_shared.specs.Ends.{IsUntorn};
-ghost use Rattle.kp_shared.specs.Nodes.{FlushTells, IsNodeTurn, ThinkTells};
+ghost use Rattle.kp_shared.specs.Nodes.{FlushTells, IsNodeTurn, ThinkAsks, ThinkTells};
 
 use crate::kept::{Kept, Served};
 use crate::refusal::Refusal;
@@ -33,6 +33,7 @@ pub fn think<R: Wait, K: Kept, C: Clock>(
     requires { IsNodeTurn (λ s. K.life s.kept) turn.now seat.old }
     ensures seat { IsNodeTurn (λ s. K.life s.kept) turn.now seat.new }
     ensures tells { ThinkTells (C.may clock.now) kind result seat.old seat.new }
+    ensures asks { ThinkAsks (C.may clock.now) kind result seat.old seat.new }
 {
     let now = clock.now();
     match turn.with(rt, seat, Task::Think(NodeEvent { now, kind })) {

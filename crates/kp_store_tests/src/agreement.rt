@@ -1,6 +1,7 @@
 //! The storage over layers answers as the store that replays its entries: the same entries, commits and truncations,
 //! drawn by a small generator, go through both, and every text that either prints is compared.
 ghost use Rattle.std.specs.Prelude.{◌≤◌, IsTrue};
+ghost use Rattle.kp_model.specs.Good.{IsSound};
 ghost use Rattle.kp_model.specs.Grammar.{is_body};
 
 mod bodies;
@@ -10,8 +11,8 @@ mod printed;
 use crate::agreement::bodies::read_body;
 use crate::agreement::drawn::{Dice, PLACES, Place, below, line, path, session};
 use crate::agreement::printed::{done_text, kept_text, kids_text, seen_text, who_text};
-use crate::sound::{Sound, blank};
 use kp_model::{Body, Entry, NoMemory, Paths, Seen, Text, View};
+use kp_plain::PlainStore;
 use kp_storage::Storage;
 use std::alloc::Global;
 use std::test::Fail;
@@ -23,14 +24,17 @@ const MANY: u64 = 100000;
 #[derive(Drop)]
 struct Both {
     layered: Storage,
-    plain: Sound,
+    plain: PlainStore,
 }
 
 /// Adds an entry to both.
-fn put(both: &mut Both, entry: &Entry) -> Result<(), NoMemory> {
-    if both.layered.last() < MANY && both.plain.store.last() < MANY {
+fn put(both: &mut Both, entry: &Entry) -> Result<(), NoMemory>
+    requires sound { IsSound both.old.plain.state }
+    ensures sound { IsSound both.new.plain.state }
+{
+    if both.layered.last() < MANY && both.plain.last() < MANY {
         both.layered.preprocess(entry)?;
-        both.plain.store.preprocess(entry)?;
+        both.plain.preprocess(entry)?;
     }
     Ok(())
 }
@@ -39,6 +43,8 @@ fn put(both: &mut Both, entry: &Entry) -> Result<(), NoMemory> {
 fn enter(both: &mut Both, n: u64, body: Body) -> Result<(), NoMemory>
     requires number { n ≤ 100000 }
     requires numbers { IsTrue (is_body body) }
+    requires sound { IsSound both.old.plain.state }
+    ensures sound { IsSound both.new.plain.state }
 {
     let entry = Entry::new(0, n, body)?;
     let added = put(both, &entry);
@@ -47,15 +53,19 @@ fn enter(both: &mut Both, n: u64, body: Body) -> Result<(), NoMemory>
 }
 
 /// What the plain store kept for its last entry.
-fn plain_kept(alloc: Global, plain: &Sound) -> Result<Vec<u8>, NoMemory> {
-    let reply = plain.store.kept(plain.store.last())?;
+fn plain_kept(alloc: Global, plain: &PlainStore) -> Result<Vec<u8>, NoMemory>
+    requires sound { IsSound plain.now.state }
+{
+    let reply = plain.kept(plain.last())?;
     let text = kept_text(alloc, reply.as_ref());
     drop(reply);
     text
 }
 
 /// Whether both print the same of their last entry.
-fn same_kept(alloc: Global, both: &Both) -> Result<bool, NoMemory> {
+fn same_kept(alloc: Global, both: &Both) -> Result<bool, NoMemory>
+    requires sound { IsSound both.now.plain.state }
+{
     let layered = kept_text(alloc, both.layered.kept(both.layered.last()))?;
     let plain = plain_kept(alloc, &both.plain)?;
     Ok(layered.as_slice() == plain.as_slice())
@@ -63,7 +73,9 @@ fn same_kept(alloc: Global, both: &Both) -> Result<bool, NoMemory> {
 
 /// Adds the entry of a drawn line. Whether it is a line, and both print the same.
 fn add(alloc: Global, dice: &mut Dice, both: &mut Both, n: u64) -> Result<bool, NoMemory>
-    requires { n ≤ 100000 }
+    requires number { n ≤ 100000 }
+    requires sound { IsSound both.old.plain.state }
+    ensures sound { IsSound both.new.plain.state }
 {
     let text = line(alloc, dice, &both.layered)?;
     match read_body(alloc, n, text.as_slice())? {
@@ -76,7 +88,9 @@ fn add(alloc: Global, dice: &mut Dice, both: &mut Both, n: u64) -> Result<bool, 
 }
 
 fn add_noop(alloc: Global, both: &mut Both, n: u64) -> Result<bool, NoMemory>
-    requires { n ≤ 100000 }
+    requires number { n ≤ 100000 }
+    requires sound { IsSound both.old.plain.state }
+    ensures sound { IsSound both.new.plain.state }
 {
     enter(both, n, Body::Noop)?;
     same_kept(alloc, both)
@@ -91,15 +105,21 @@ fn layered_done(alloc: Global, layered: &mut Storage) -> Result<Vec<u8>, NoMemor
 }
 
 /// What is printed of a commit of the plain store.
-fn plain_done(alloc: Global, plain: &mut Sound) -> Result<Vec<u8>, NoMemory> {
-    let done = plain.store.commit()?;
+fn plain_done(alloc: Global, plain: &mut PlainStore) -> Result<Vec<u8>, NoMemory>
+    requires sound { IsSound plain.old.state }
+    ensures sound { IsSound plain.new.state }
+{
+    let done = plain.commit()?;
     let text = done_text(alloc, done.as_ref());
     drop(done);
     text
 }
 
 /// Whether both print the same of a commit, and the layered one the same beforehand.
-fn commit(alloc: Global, both: &mut Both) -> Result<bool, NoMemory> {
+fn commit(alloc: Global, both: &mut Both) -> Result<bool, NoMemory>
+    requires sound { IsSound both.old.plain.state }
+    ensures sound { IsSound both.new.plain.state }
+{
     let upcoming = done_text(alloc, both.layered.upcoming())?;
     let layered = layered_done(alloc, &mut both.layered)?;
     let plain = plain_done(alloc, &mut both.plain)?;
@@ -107,21 +127,24 @@ fn commit(alloc: Global, both: &mut Both) -> Result<bool, NoMemory> {
 }
 
 /// Cuts both at one index. Whether they end there.
-fn truncate(dice: &mut Dice, both: &mut Both) -> bool {
+fn truncate(dice: &mut Dice, both: &mut Both) -> bool
+    requires sound { IsSound both.old.plain.state }
+    ensures sound { IsSound both.new.plain.state }
+{
     let (applied, last) = (both.layered.applied(), both.layered.last());
     let at = applied + dice.roll(last - applied + 1);
     both.layered.truncate(at);
-    if both.plain.store.applied() <= at && at <= both.plain.store.last() {
-        both.plain.store.truncate(at);
+    if both.plain.applied() <= at && at <= both.plain.last() {
+        both.plain.truncate(at);
     }
-    both.layered.last() == at
-        && both.plain.store.last() == at
-        && both.plain.store.applied() == applied
+    both.layered.last() == at && both.plain.last() == at && both.plain.applied() == applied
 }
 
 /// The n-th step. Whether both print the same.
 fn step(alloc: Global, dice: &mut Dice, both: &mut Both, n: u64) -> Result<bool, NoMemory>
-    requires { n ≤ 100000 }
+    requires number { n ≤ 100000 }
+    requires sound { IsSound both.old.plain.state }
+    ensures sound { IsSound both.new.plain.state }
 {
     match dice.roll(16) {
         0 => add_noop(alloc, both, n),
@@ -141,26 +164,32 @@ fn plain_seen(alloc: Global, seen: Option<Seen>) -> Result<Vec<u8>, NoMemory> {
     text
 }
 
-fn same_peek(alloc: Global, both: &Both, at: &str) -> Result<bool, NoMemory> {
+fn same_peek(alloc: Global, both: &Both, at: &str) -> Result<bool, NoMemory>
+    requires sound { IsSound both.now.plain.state }
+{
     let store = &both.layered;
     let layered = seen_text(alloc, store.latest_data(at), store.latest_meta(at))?;
-    let plain = plain_seen(alloc, both.plain.store.peek(at)?)?;
+    let plain = plain_seen(alloc, both.plain.peek(at)?)?;
     Ok(layered.as_slice() == plain.as_slice())
 }
 
-fn same_see(alloc: Global, both: &Both, at: &str) -> Result<bool, NoMemory> {
+fn same_see(alloc: Global, both: &Both, at: &str) -> Result<bool, NoMemory>
+    requires sound { IsSound both.now.plain.state }
+{
     let store = &both.layered;
     let layered = seen_text(alloc, store.committed_data(at), store.committed_meta(at))?;
-    let plain = plain_seen(alloc, both.plain.store.see(at)?)?;
+    let plain = plain_seen(alloc, both.plain.see(at)?)?;
     Ok(layered.as_slice() == plain.as_slice())
 }
 
 /// Whether the plain store has this node, in its committed or its uncommitted state.
-fn has(plain: &Sound, path: &str, committed: bool) -> Result<bool, NoMemory> {
+fn has(plain: &PlainStore, path: &str, committed: bool) -> Result<bool, NoMemory>
+    requires sound { IsSound plain.now.state }
+{
     let seen = if committed {
-        plain.store.see(path)?
+        plain.see(path)?
     } else {
-        plain.store.peek(path)?
+        plain.peek(path)?
     };
     let there = seen.is_some();
     drop(seen);
@@ -168,11 +197,13 @@ fn has(plain: &Sound, path: &str, committed: bool) -> Result<bool, NoMemory> {
 }
 
 /// The number of children that the plain store tells of a node; None where it has none.
-fn plain_count(plain: &Sound, path: &str, committed: bool) -> Result<Option<u32>, NoMemory> {
+fn plain_count(plain: &PlainStore, path: &str, committed: bool) -> Result<Option<u32>, NoMemory>
+    requires sound { IsSound plain.now.state }
+{
     let seen = if committed {
-        plain.store.see(path)?
+        plain.see(path)?
     } else {
-        plain.store.peek(path)?
+        plain.peek(path)?
     };
     let count = match &seen {
         None => None,
@@ -185,11 +216,13 @@ fn plain_count(plain: &Sound, path: &str, committed: bool) -> Result<Option<u32>
 /// Those of the names below a path that the plain store has there.
 fn names_there(
     alloc: Global,
-    plain: &Sound,
+    plain: &PlainStore,
     at: &str,
     names: &Paths,
     committed: bool,
-) -> Result<Paths, NoMemory> {
+) -> Result<Paths, NoMemory>
+    requires sound { IsSound plain.now.state }
+{
     let mut there = Paths::new(alloc);
     for name in names.as_slice() {
         let child = below(alloc, at, name.as_str())?;
@@ -217,17 +250,26 @@ fn is_among(names: &[Text], name: &str) -> bool {
 }
 
 /// Whether the name of a place is among those below its parent exactly where the plain store has the place.
-fn is_told(plain: &Sound, place: &Place, names: &Paths, committed: bool) -> Result<bool, NoMemory> {
+fn is_told(
+    plain: &PlainStore,
+    place: &Place,
+    names: &Paths,
+    committed: bool,
+) -> Result<bool, NoMemory>
+    requires sound { IsSound plain.now.state }
+{
     Ok(is_among(names.as_slice(), place.name) == has(plain, place.path, committed)?)
 }
 
 /// Whether the names below a path tell of the places there as the plain store does.
 fn are_places_told(
-    plain: &Sound,
+    plain: &PlainStore,
     at: &str,
     names: &Paths,
     committed: bool,
-) -> Result<bool, NoMemory> {
+) -> Result<bool, NoMemory>
+    requires sound { IsSound plain.now.state }
+{
     let mut told = true;
     for place in &PLACES {
         if place.parent == at && !is_told(plain, place, names, committed)? {
@@ -240,11 +282,13 @@ fn are_places_told(
 /// What the plain store prints of the children, of which it is asked for each name.
 fn plain_kids(
     alloc: Global,
-    plain: &Sound,
+    plain: &PlainStore,
     at: &str,
     names: &Paths,
     committed: bool,
-) -> Result<Vec<u8>, NoMemory> {
+) -> Result<Vec<u8>, NoMemory>
+    requires sound { IsSound plain.now.state }
+{
     if !has(plain, at, committed)? {
         return kids_text(alloc, None);
     }
@@ -261,7 +305,9 @@ fn listed<V: View>(alloc: Global, view: &V, at: &str, names: &Paths) -> Result<V
 
 /// Whether these are the names of all children that the plain store has: ascending, as many as it tells, and with
 /// those of the places.
-fn are_all(plain: &Sound, at: &str, names: &Paths, committed: bool) -> Result<bool, NoMemory> {
+fn are_all(plain: &PlainStore, at: &str, names: &Paths, committed: bool) -> Result<bool, NoMemory>
+    requires sound { IsSound plain.now.state }
+{
     let count = plain_count(plain, at, committed)?;
     let counted = count.unwrap_or(0) as usize == names.len();
     Ok(counted && are_ascending(names.as_slice()) && are_places_told(plain, at, names, committed)?)
@@ -269,7 +315,9 @@ fn are_all(plain: &Sound, at: &str, names: &Paths, committed: bool) -> Result<bo
 
 /// Whether both have the same number of children in the uncommitted state, and the same of the places among them; where
 /// each child is asked for, also whether both print the same of them.
-fn same_kids(alloc: Global, both: &Both, at: &str, each: bool) -> Result<bool, NoMemory> {
+fn same_kids(alloc: Global, both: &Both, at: &str, each: bool) -> Result<bool, NoMemory>
+    requires sound { IsSound both.now.plain.state }
+{
     let view = both.layered.latest();
     let names = view.kids(alloc, at)?;
     let all = are_all(&both.plain, at, &names, false)?;
@@ -282,7 +330,9 @@ fn same_kids(alloc: Global, both: &Both, at: &str, each: bool) -> Result<bool, N
 }
 
 /// The same of the committed state, where each child is asked for.
-fn same_ls(alloc: Global, both: &Both, at: &str) -> Result<bool, NoMemory> {
+fn same_ls(alloc: Global, both: &Both, at: &str) -> Result<bool, NoMemory>
+    requires sound { IsSound both.now.plain.state }
+{
     let view = both.layered.committed();
     let names = view.kids(alloc, at)?;
     let all = are_all(&both.plain, at, &names, true)?;
@@ -291,14 +341,18 @@ fn same_ls(alloc: Global, both: &Both, at: &str) -> Result<bool, NoMemory> {
     Ok(all && layered.as_slice() == plain.as_slice())
 }
 
-fn plain_who(alloc: Global, plain: &Sound, session: u64) -> Result<Vec<u8>, NoMemory> {
-    let found = plain.store.who(session)?;
+fn plain_who(alloc: Global, plain: &PlainStore, session: u64) -> Result<Vec<u8>, NoMemory>
+    requires sound { IsSound plain.now.state }
+{
+    let found = plain.who(session)?;
     let text = who_text(alloc, found.as_ref());
     drop(found);
     text
 }
 
-fn same_who(alloc: Global, both: &Both, session: u64) -> Result<bool, NoMemory> {
+fn same_who(alloc: Global, both: &Both, session: u64) -> Result<bool, NoMemory>
+    requires sound { IsSound both.now.plain.state }
+{
     let layered = who_text(alloc, both.layered.latest_session(session))?;
     let plain = plain_who(alloc, &both.plain, session)?;
     Ok(layered.as_slice() == plain.as_slice())
@@ -306,7 +360,9 @@ fn same_who(alloc: Global, both: &Both, session: u64) -> Result<bool, NoMemory> 
 
 /// Whether both print the same of a drawn node, in both states. In the uncommitted state each of its children is asked
 /// for in every fourth look only, as the plain store replays its entries at each.
-fn look(alloc: Global, dice: &mut Dice, both: &Both) -> Result<bool, NoMemory> {
+fn look(alloc: Global, dice: &mut Dice, both: &Both) -> Result<bool, NoMemory>
+    requires sound { IsSound both.now.plain.state }
+{
     let at = path(alloc, dice, &both.layered)?;
     let each = dice.roll(4) == 0;
     let seen = same_peek(alloc, both, at.as_str())? && same_see(alloc, both, at.as_str())?;
@@ -315,13 +371,17 @@ fn look(alloc: Global, dice: &mut Dice, both: &Both) -> Result<bool, NoMemory> {
 }
 
 /// Whether both print the same of a drawn session.
-fn look_at_session(alloc: Global, dice: &mut Dice, both: &Both) -> Result<bool, NoMemory> {
+fn look_at_session(alloc: Global, dice: &mut Dice, both: &Both) -> Result<bool, NoMemory>
+    requires sound { IsSound both.now.plain.state }
+{
     let id = session(alloc, dice, &both.layered)?;
     same_who(alloc, both, id)
 }
 
 /// Whether both print the same of each session of these runs.
-fn same_sessions(alloc: Global, both: &Both) -> Result<bool, NoMemory> {
+fn same_sessions(alloc: Global, both: &Both) -> Result<bool, NoMemory>
+    requires sound { IsSound both.now.plain.state }
+{
     let mut same = true;
     for id in 0..both.layered.latest().next_session().min(MANY) {
         if !same_who(alloc, both, id)? {
@@ -333,7 +393,9 @@ fn same_sessions(alloc: Global, both: &Both) -> Result<bool, NoMemory> {
 
 /// How many of the steps, and of the looks behind them, give the same in both.
 fn agreeing(alloc: Global, dice: &mut Dice, both: &mut Both, steps: u64) -> Result<u64, NoMemory>
-    requires { steps ≤ 100000 }
+    requires steps { steps ≤ 100000 }
+    requires sound { IsSound both.old.plain.state }
+    ensures sound { IsSound both.new.plain.state }
 {
     let mut same: u64 = 0;
     for n in 0..steps {
@@ -347,7 +409,10 @@ fn agreeing(alloc: Global, dice: &mut Dice, both: &mut Both, steps: u64) -> Resu
 }
 
 /// Those of a run on these stores; none where the sessions behind it differ.
-fn agreeing_of(alloc: Global, both: &mut Both) -> Result<u64, NoMemory> {
+fn agreeing_of(alloc: Global, both: &mut Both) -> Result<u64, NoMemory>
+    requires sound { IsSound both.old.plain.state }
+    ensures sound { IsSound both.new.plain.state }
+{
     let mut dice = Dice { state: 2026 };
     let same = agreeing(alloc, &mut dice, both, 600)?;
     if same_sessions(alloc, both)? {
@@ -359,10 +424,12 @@ fn agreeing_of(alloc: Global, both: &mut Both) -> Result<u64, NoMemory> {
 
 /// Those of a run on empty stores.
 fn run(alloc: Global) -> Result<u64, NoMemory> {
-    run_beside(alloc, blank(alloc)?)
+    run_beside(alloc, PlainStore::new(alloc)?)
 }
 
-fn run_beside(alloc: Global, plain: Sound) -> Result<u64, NoMemory> {
+fn run_beside(alloc: Global, plain: PlainStore) -> Result<u64, NoMemory>
+    requires sound { IsSound plain.state }
+{
     match Storage::new(alloc) {
         Ok(layered) => {
             let mut both = Both { layered, plain };

@@ -13,6 +13,4 @@ mod nodes;
 #[cfg(test)]
 mod plain;
 #[cfg(test)]
-mod sound;
-#[cfg(test)]
 mod stories;

@@ -1,10 +1,11 @@
 //! The plain store, with ample memory.
 ghost use Rattle.std.specs.Prelude.{◌≤◌, length, IsTrue, IfOk};
+ghost use Rattle.kp_model.specs.Good.{IsSound};
 ghost use Rattle.kp_model.specs.Grammar.{fits_cmd};
 
-use crate::sound::{Sound, blank};
 use kp_model::errors::NOT_EMPTY;
 use kp_model::{Acls, Body, Bytes, Cmd, Entry, NoMemory, Origin, Reply, Seen, Text};
+use kp_plain::PlainStore;
 use std::alloc::Global;
 use std::test::Fail;
 
@@ -43,15 +44,21 @@ fn write(seq: u64, cmd: Cmd) -> Entry
 }
 
 // Adds an entry to a store that has room for it.
-fn add(plain: &mut Sound, entry: &Entry) -> Result<(), NoMemory> {
-    if plain.store.last() < 1 << 62 {
-        plain.store.preprocess(entry)?;
+fn add(plain: &mut PlainStore, entry: &Entry) -> Result<(), NoMemory>
+    requires sound { IsSound plain.old.state }
+    ensures sound { IsSound plain.new.state }
+{
+    if plain.last() < 1 << 62 {
+        plain.preprocess(entry)?;
     }
     Ok(())
 }
 
 // Opens the first session.
-fn begin(plain: &mut Sound) -> Result<(), NoMemory> {
+fn begin(plain: &mut PlainStore) -> Result<(), NoMemory>
+    requires sound { IsSound plain.old.state }
+    ensures sound { IsSound plain.new.state }
+{
     let entry = open();
     let added = add(plain, &entry);
     drop(entry);
@@ -59,9 +66,11 @@ fn begin(plain: &mut Sound) -> Result<(), NoMemory> {
 }
 
 // A command of the first session.
-fn enter(plain: &mut Sound, seq: u64, cmd: Cmd) -> Result<(), NoMemory>
+fn enter(plain: &mut PlainStore, seq: u64, cmd: Cmd) -> Result<(), NoMemory>
     requires number { seq ≤ 100 }
     requires fits { IsTrue (fits_cmd cmd) }
+    requires sound { IsSound plain.old.state }
+    ensures sound { IsSound plain.new.state }
 {
     let entry = write(seq, cmd);
     let added = add(plain, &entry);
@@ -72,7 +81,7 @@ fn enter(plain: &mut Sound, seq: u64, cmd: Cmd) -> Result<(), NoMemory>
 // Creates a node that is open to everyone.
 fn create(
     alloc: Global,
-    plain: &mut Sound,
+    plain: &mut PlainStore,
     seq: u64,
     path: &str,
     bytes: &[u8],
@@ -80,6 +89,8 @@ fn create(
     requires number { seq ≤ 100 }
     requires path { length path.now ≤ 100 }
     requires bytes { length bytes.now ≤ 100 }
+    requires sound { IsSound plain.old.state }
+    ensures sound { IsSound plain.new.state }
 {
     let cmd = Cmd::Create {
         path: Text::from_str(alloc, path)?,
@@ -92,10 +103,18 @@ fn create(
 }
 
 // Sets the data of a node of any version.
-fn set(alloc: Global, plain: &mut Sound, seq: u64, path: &str, bytes: &[u8]) -> Result<(), NoMemory>
+fn set(
+    alloc: Global,
+    plain: &mut PlainStore,
+    seq: u64,
+    path: &str,
+    bytes: &[u8],
+) -> Result<(), NoMemory>
     requires number { seq ≤ 100 }
     requires path { length path.now ≤ 100 }
     requires bytes { length bytes.now ≤ 100 }
+    requires sound { IsSound plain.old.state }
+    ensures sound { IsSound plain.new.state }
 {
     let cmd = Cmd::SetData {
         path: Text::from_str(alloc, path)?,
@@ -106,9 +125,11 @@ fn set(alloc: Global, plain: &mut Sound, seq: u64, path: &str, bytes: &[u8]) -> 
 }
 
 // Deletes a node of any version.
-fn delete(alloc: Global, plain: &mut Sound, seq: u64, path: &str) -> Result<(), NoMemory>
+fn delete(alloc: Global, plain: &mut PlainStore, seq: u64, path: &str) -> Result<(), NoMemory>
     requires number { seq ≤ 100 }
     requires path { length path.now ≤ 100 }
+    requires sound { IsSound plain.old.state }
+    ensures sound { IsSound plain.new.state }
 {
     let cmd = Cmd::Delete {
         path: Text::from_str(alloc, path)?,
@@ -118,9 +139,12 @@ fn delete(alloc: Global, plain: &mut Sound, seq: u64, path: &str) -> Result<(), 
 }
 
 // Forgets the entries behind an index of the store.
-fn cut(plain: &mut Sound, last: u64) {
-    if plain.store.applied() <= last && last <= plain.store.last() {
-        plain.store.truncate(last);
+fn cut(plain: &mut PlainStore, last: u64)
+    requires sound { IsSound plain.old.state }
+    ensures sound { IsSound plain.new.state }
+{
+    if plain.applied() <= last && last <= plain.last() {
+        plain.truncate(last);
     }
 }
 
@@ -148,8 +172,10 @@ enum Said {
 }
 
 // Whether the entry of this index was answered so.
-fn keeps(plain: &Sound, index: u64, expected: Said) -> Result<bool, NoMemory> {
-    let reply = plain.store.kept(index)?;
+fn keeps(plain: &PlainStore, index: u64, expected: Said) -> Result<bool, NoMemory>
+    requires sound { IsSound plain.now.state }
+{
+    let reply = plain.kept(index)?;
     let said = match &reply {
         Some(Reply::Session(id)) => Said::Session(*id),
         Some(Reply::Done) => Said::Done,
@@ -161,16 +187,21 @@ fn keeps(plain: &Sound, index: u64, expected: Said) -> Result<bool, NoMemory> {
 }
 
 // The index of the entry that is committed; None where there is none.
-fn committed(plain: &mut Sound) -> Result<Option<u64>, NoMemory> {
-    let done = plain.store.commit()?;
+fn committed(plain: &mut PlainStore) -> Result<Option<u64>, NoMemory>
+    requires sound { IsSound plain.old.state }
+    ensures sound { IsSound plain.new.state }
+{
+    let done = plain.commit()?;
     let index = done.as_ref().map(|done| done.index);
     drop(done);
     Ok(index)
 }
 
 // Whether the first session has this running number.
-fn has_written(plain: &Sound, seq: u64) -> Result<bool, NoMemory> {
-    let session = plain.store.who(1)?;
+fn has_written(plain: &PlainStore, seq: u64) -> Result<bool, NoMemory>
+    requires sound { IsSound plain.now.state }
+{
+    let session = plain.who(1)?;
     let written = match &session {
         Some(session) => session.timeout == 30000 && session.seq == seq,
         None => false,
@@ -180,42 +211,57 @@ fn has_written(plain: &Sound, seq: u64) -> Result<bool, NoMemory> {
 }
 
 // Whether a creation is seen in the uncommitted state alone.
-fn is_created(alloc: Global, plain: &mut Sound) -> Result<bool, NoMemory> {
+fn is_created(alloc: Global, plain: &mut PlainStore) -> Result<bool, NoMemory>
+    requires sound { IsSound plain.old.state }
+    ensures sound { IsSound plain.new.state }
+{
     begin(plain)?;
     create(alloc, plain, 1, "/a", b"hi")?;
     let kept = keeps(plain, 1, Said::Session(1))?;
-    let unseen = plain.store.see("/a")?.is_none();
-    let seen = shows(plain.store.peek("/a")?, b"hi", 2, 0);
+    let unseen = plain.see("/a")?.is_none();
+    let seen = shows(plain.peek("/a")?, b"hi", 2, 0);
     Ok(kept && unseen && seen && has_written(plain, 1)?)
 }
 
 // Whether it is seen when it is committed.
-fn is_committed(plain: &mut Sound) -> Result<bool, NoMemory> {
+fn is_committed(plain: &mut PlainStore) -> Result<bool, NoMemory>
+    requires sound { IsSound plain.old.state }
+    ensures sound { IsSound plain.new.state }
+{
     let first = committed(plain)? == Some(1);
     let second = committed(plain)? == Some(2);
     let none = committed(plain)?.is_none();
-    let seen = shows(plain.store.see("/a")?, b"hi", 2, 0);
-    Ok(first && second && none && plain.store.applied() == 2 && seen)
+    let seen = shows(plain.see("/a")?, b"hi", 2, 0);
+    Ok(first && second && none && plain.applied() == 2 && seen)
 }
 
-fn creation(alloc: Global, plain: &mut Sound) -> Result<bool, NoMemory> {
+fn creation(alloc: Global, plain: &mut PlainStore) -> Result<bool, NoMemory>
+    requires sound { IsSound plain.old.state }
+    ensures sound { IsSound plain.new.state }
+{
     let created = is_created(alloc, plain)?;
     Ok(is_committed(plain)? && created)
 }
 
 // Whether a truncation takes the last data back.
-fn data(alloc: Global, plain: &mut Sound) -> Result<bool, NoMemory> {
+fn data(alloc: Global, plain: &mut PlainStore) -> Result<bool, NoMemory>
+    requires sound { IsSound plain.old.state }
+    ensures sound { IsSound plain.new.state }
+{
     begin(plain)?;
     create(alloc, plain, 1, "/a", b"")?;
     set(alloc, plain, 2, "/a", &[1])?;
     set(alloc, plain, 3, "/a", &[2])?;
     set(alloc, plain, 4, "/a", &[3])?;
     cut(plain, 4);
-    Ok(plain.store.last() == 4 && shows(plain.store.peek("/a")?, &[2], 4, 2))
+    Ok(plain.last() == 4 && shows(plain.peek("/a")?, &[2], 4, 2))
 }
 
 // A node and its child, which both go.
-fn make_and_delete(alloc: Global, plain: &mut Sound) -> Result<(), NoMemory> {
+fn make_and_delete(alloc: Global, plain: &mut PlainStore) -> Result<(), NoMemory>
+    requires sound { IsSound plain.old.state }
+    ensures sound { IsSound plain.new.state }
+{
     begin(plain)?;
     create(alloc, plain, 1, "/p", b"")?;
     create(alloc, plain, 2, "/p/c", b"")?;
@@ -224,7 +270,10 @@ fn make_and_delete(alloc: Global, plain: &mut Sound) -> Result<(), NoMemory> {
 }
 
 // Whether a truncation takes deletions back, so that the node can't go.
-fn deletions(alloc: Global, plain: &mut Sound) -> Result<bool, NoMemory> {
+fn deletions(alloc: Global, plain: &mut PlainStore) -> Result<bool, NoMemory>
+    requires sound { IsSound plain.old.state }
+    ensures sound { IsSound plain.new.state }
+{
     make_and_delete(alloc, plain)?;
     let gone = keeps(plain, 5, Said::Done)?;
     cut(plain, 3);
@@ -240,7 +289,10 @@ enum Story {
     Deletions,
 }
 
-fn tell(alloc: Global, plain: &mut Sound, story: Story) -> Result<bool, NoMemory> {
+fn tell(alloc: Global, plain: &mut PlainStore, story: Story) -> Result<bool, NoMemory>
+    requires sound { IsSound plain.old.state }
+    ensures sound { IsSound plain.new.state }
+{
     match story {
         Story::Creation => creation(alloc, plain),
         Story::Data => data(alloc, plain),
@@ -250,7 +302,7 @@ fn tell(alloc: Global, plain: &mut Sound, story: Story) -> Result<bool, NoMemory
 
 // Whether a story goes as it must, on an empty store.
 fn goes(alloc: Global, story: Story) -> Result<bool, NoMemory> {
-    let mut plain = blank(alloc)?;
+    let mut plain = PlainStore::new(alloc)?;
     let told = tell(alloc, &mut plain, story);
     drop(plain);
     told

@@ -4,3 +4,6 @@ pub mod Moves
 pub mod Laws
 pub mod Runs
 pub mod Broken
+pub mod Net
+pub mod NetworkRuns
+pub mod ChangedRuns

@@ -8,6 +8,8 @@
 //! them in figure 3.2; `specs/Laws.antt` has them in full.
 #![tactic(auto)]
 
+mod network;
+
 ghost use Rattle.kp_world.specs.Laws.{
   OneWinner,
   OneLeader,
@@ -32,6 +34,8 @@ ghost use Rattle.kp_world.specs.Broken.{
   FollowersKeepAgreement,
   OldEntriesAreNotCounted,
 };
+
+pub use network::{network_rules_are_needed, networks_of_three, one_list, one_log};
 
 /// Election Safety (thesis, section 3.4): at most one leader is elected in a term.
 ///

@@ -1,0 +1,6 @@
+pub mod Watching
+pub mod Spots
+pub mod Owners
+pub mod Numbered
+pub mod Indexed
+pub mod Gone

@@ -8,5 +8,3 @@ mod connection;
 mod cutting;
 #[cfg(test)]
 mod frames;
-#[cfg(test)]
-mod real_clients;

@@ -1,3 +1,4 @@
+// Functions that are proved only if these types may cross threads, at any node that may be sent.
 use crate::kept::{Kept, Served};
 use kp_turn::{Turn, TurnSeat};
 

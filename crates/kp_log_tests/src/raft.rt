@@ -1,5 +1,5 @@
 //! A run of three members: an election, writes, and a leader whose writes are cut off by the next one.
-ghost use Rattle.std.specs.Prelude.{◌≡◌, ◌≤◌, ◌∷◌, [], IfOk};
+ghost use Rattle.std.specs.Prelude.{◌≡◌, ◌≤◌, ◌∷◌, [], length, IfOk};
 
 use kp_model::{Body, Bytes, Items, NoMemory, Role};
 use kp_raft::{AppendMail, Mail, Raft, RaftEvent, RaftOut};
@@ -12,6 +12,7 @@ enum Act {
     Deliver(usize),
     Beat(usize),
     Write(usize),
+    Compact(usize),
 }
 
 // A line: what happens, and the role, the term, the last index and the commit index of the member that it happens to.
@@ -180,6 +181,108 @@ const ROWS: &[Row] = &[
     },
 ];
 
+// The same until two entries are committed. Then an image stands for them, and the member that has none gets it.
+const IMAGE: &[Row] = &[
+    Row {
+        act: Act::Timeout(1),
+        role: Role::Candidate,
+        term: 1,
+        last: 0,
+        commit: 0,
+    },
+    Row {
+        act: Act::Deliver(1),
+        role: Role::Follower,
+        term: 1,
+        last: 0,
+        commit: 0,
+    },
+    Row {
+        act: Act::Deliver(3),
+        role: Role::Leader,
+        term: 1,
+        last: 1,
+        commit: 0,
+    },
+    Row {
+        act: Act::Beat(1),
+        role: Role::Leader,
+        term: 1,
+        last: 1,
+        commit: 0,
+    },
+    Row {
+        act: Act::Deliver(4),
+        role: Role::Follower,
+        term: 1,
+        last: 1,
+        commit: 0,
+    },
+    Row {
+        act: Act::Deliver(6),
+        role: Role::Leader,
+        term: 1,
+        last: 1,
+        commit: 1,
+    },
+    Row {
+        act: Act::Write(1),
+        role: Role::Leader,
+        term: 1,
+        last: 2,
+        commit: 1,
+    },
+    Row {
+        act: Act::Beat(1),
+        role: Role::Leader,
+        term: 1,
+        last: 2,
+        commit: 1,
+    },
+    Row {
+        act: Act::Deliver(7),
+        role: Role::Follower,
+        term: 1,
+        last: 2,
+        commit: 1,
+    },
+    Row {
+        act: Act::Deliver(9),
+        role: Role::Leader,
+        term: 1,
+        last: 2,
+        commit: 2,
+    },
+    Row {
+        act: Act::Compact(1),
+        role: Role::Leader,
+        term: 1,
+        last: 2,
+        commit: 2,
+    },
+    Row {
+        act: Act::Beat(1),
+        role: Role::Leader,
+        term: 1,
+        last: 2,
+        commit: 2,
+    },
+    Row {
+        act: Act::Deliver(11),
+        role: Role::Follower,
+        term: 1,
+        last: 2,
+        commit: 2,
+    },
+    Row {
+        act: Act::Deliver(12),
+        role: Role::Leader,
+        term: 1,
+        last: 2,
+        commit: 2,
+    },
+];
+
 // The members, and all messages that were ever sent, with their receivers.
 #[derive(Drop)]
 struct Cluster {
@@ -190,26 +293,33 @@ struct Cluster {
 #[test]
 fn a_run_is_as_the_rules_say(rt: HostRuntime) -> Result<(), NoMemory> {
     let alloc = rt.alloc();
-    assert!(rt; is_run(alloc)?);
+    assert!(rt; is_run(alloc, ROWS)?);
+    Ok(())
+}
+
+#[test]
+fn a_member_that_lags_gets_an_image(rt: HostRuntime) -> Result<(), NoMemory> {
+    let alloc = rt.alloc();
+    assert!(rt; is_run(alloc, IMAGE)?);
     Ok(())
 }
 
 // Whether each line shows what it should.
-fn is_run(alloc: Global) -> Result<bool, NoMemory> {
+fn is_run(alloc: Global, rows: &[Row]) -> Result<bool, NoMemory> {
     let mut cluster = Cluster {
         members: Vec::new(alloc),
         sent: Vec::new(alloc),
     };
-    let same = run(alloc, &mut cluster);
+    let same = run(alloc, &mut cluster, rows);
     drop(cluster);
     same
 }
 
-fn run(alloc: Global, cluster: &mut Cluster) -> Result<bool, NoMemory> {
+fn run(alloc: Global, cluster: &mut Cluster, rows: &[Row]) -> Result<bool, NoMemory> {
     for node in 1..4 {
         add_member(alloc, &mut cluster.members, node)?;
     }
-    for row in ROWS {
+    for row in rows {
         if !is_shown(alloc, cluster, row)? {
             return Ok(false);
         }
@@ -257,6 +367,7 @@ enum Turn {
     Timeout,
     Beat,
     Write,
+    Compact,
     Mail(Mail<Bytes>),
 }
 
@@ -270,6 +381,7 @@ fn turn_of(
         Act::Timeout(node) => Ok(Some((node, Turn::Timeout))),
         Act::Beat(node) => Ok(Some((node, Turn::Beat))),
         Act::Write(node) => Ok(Some((node, Turn::Write))),
+        Act::Compact(node) => Ok(Some((node, Turn::Compact))),
         Act::Deliver(number) => match sent.get(number.wrapping_sub(1)) {
             None => Ok(None),
             Some((to, mail)) => Ok(Some((*to as usize, Turn::Mail(mail.copy(alloc)?)))),
@@ -282,20 +394,32 @@ fn step(alloc: Global, raft: &mut Raft<Bytes>, turn: Turn) -> Result<RaftOut<Byt
         Turn::Timeout => raft.step(RaftEvent::Timeout),
         Turn::Beat => beat(alloc, raft),
         Turn::Write => write(alloc, raft),
+        Turn::Compact => compact(raft),
         Turn::Mail(mail) => deliver(raft, mail),
     }
 }
 
-// A beat of a member of which no peer lags.
+// A beat, with an image for each peer that lags.
 fn beat(alloc: Global, raft: &mut Raft<Bytes>) -> Result<RaftOut<Bytes>, NoMemory> {
-    if raft.lagging() != 0 {
-        return Err(NoMemory);
-    }
+    let images = images_of(alloc, raft.lagging())?;
     let index = raft.commit();
-    raft.step(RaftEvent::Beat {
-        index,
-        images: Items::new(alloc),
-    })
+    raft.step(RaftEvent::Beat { index, images })
+}
+
+fn images_of(alloc: Global, count: u32) -> Result<Items<Bytes>, NoMemory>
+    ensures { IfOk result (λ images. length images ≡ count) }
+{
+    let mut images = Items::new(alloc);
+    for _ in 0..count {
+        images.push(Bytes::from_vec(Vec::new(alloc)))?;
+    }
+    Ok(images)
+}
+
+// What is committed becomes the base.
+fn compact(raft: &mut Raft<Bytes>) -> Result<RaftOut<Bytes>, NoMemory> {
+    let index = raft.commit();
+    raft.step(RaftEvent::Compact { index })
 }
 
 // One more entry of a leader.

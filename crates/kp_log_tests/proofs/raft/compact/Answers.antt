@@ -1,0 +1,5 @@
+use Rattle.std.proofs.Common.{arith}
+use Rattle.kp_log_tests.proofs.raft.compact.Goals as goal
+
+pub step-requires : goal.step-requires
+step-requires c = record { from = c.commit-index.ensures.from; to = omega (arith, c.commit-index.ensures.index) }

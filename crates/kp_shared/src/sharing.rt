@@ -16,7 +16,7 @@ use crate::told::Told;
 use kp_event::Carried;
 use kp_links::{LinkSeat, Links};
 use kp_turn::{NoMemory, StopWord, Turn};
-use std::alloc::Global;
+use std::alloc::{AllocError, Global};
 
 // Nothing for any member.
 fn no_peers<T>() -> Peers<T>
@@ -58,7 +58,7 @@ fn make_link<M: Carried>(
                 *link = Some(made);
                 *seat = Some(first);
             }
-            Err(_) => return Err(NoMemory),
+            Err(_) => return Err(AllocError),
         }
     }
     Ok(())

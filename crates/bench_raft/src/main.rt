@@ -127,6 +127,7 @@ fn beat(alloc: Global, leader: &mut Raft<Bytes>) -> Result<Mails<Bytes>, NoMemor
     Ok(mail_of(out))
 }
 
+#[tactic(auto, using(crate::proofs::Bodies::all_push))]
 fn bodies_of(alloc: Global, data: &[u8]) -> Result<Items<Body>, NoMemory>
     ensures { IfOk result (λ bodies. IsTrue (list_all is_body bodies)) }
 {

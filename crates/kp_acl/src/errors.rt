@@ -1,7 +1,7 @@
 use kp_model::NoMemory;
 
 /// Why an access list isn't fixed, or an id isn't made.
-#[derive(Clone, Copy, Debug, PartialEq, Eq)]
+#[derive(Clone, Copy)]
 pub enum AclFail {
     /// The list is empty, or one of its lines may not be given.
     InvalidAcl,

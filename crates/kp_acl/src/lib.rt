@@ -50,6 +50,3 @@ fn has(ids: &Paths, id: &str) -> bool
 {
     ids.as_slice().iter().any(|one| id == one.as_str())
 }
-
-#[cfg(test)]
-mod tests;

@@ -5,8 +5,6 @@ mod fault;
 mod memory;
 mod promises;
 mod reader;
-#[cfg(test)]
-mod tests;
 mod writer;
 
 pub use fault::JuteFail;

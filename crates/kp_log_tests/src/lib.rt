@@ -8,3 +8,5 @@ mod entries;
 mod lists;
 #[cfg(test)]
 mod log;
+#[cfg(test)]
+mod raft;

@@ -15,8 +15,6 @@ mod read;
 mod reply;
 mod session;
 mod taking;
-#[cfg(test)]
-mod tests;
 mod text;
 mod view;
 

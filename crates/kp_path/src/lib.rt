@@ -14,7 +14,7 @@ use kp_model::{NoMemory, Text};
 use std::alloc::Global;
 
 /// The text is no path of a node.
-#[derive(Clone, Copy, Debug, PartialEq, Eq)]
+#[derive(Clone, Copy)]
 pub struct BadPath;
 
 /// Looks whether a text is a path: `/`, or parts that each follow a `/`, where no part is empty, `.` or
@@ -150,6 +150,3 @@ fn last_slash(bytes: &[u8]) -> Option<usize>
     }
     None
 }
-
-#[cfg(test)]
-mod tests;

@@ -1,14 +1,13 @@
 -- The indexes after a watch more, a watch less, a spot less, or a connection less.
-use Rattle.std.proofs.Common.{◌≡◌, ℕ, Bool, true, false, cond, nat_eq, not, ◌&&◌, ◌||◌, List, Option, Some, None, refl, ap, sym, ◌∙◌}
+use Rattle.std.proofs.Common.{◌≡◌, ℕ, Bool, true, false, cond, nat_eq, ◌&&◌, List, Option, Some, None, refl, ap, sym, ◌∙◌}
 use Rattle.std.proofs.lemmas.Bool.{eqb-true, false≢true}
 use Rattle.std.proofs.lemmas.Slice.Eq.{bytes_eq-Decides}
 use Rattle.std.specs.Str.{bytes_eq}
-use Rattle.std.specs.Cmp.{nat_eq_equiv}
 use Rattle.kp_watch.specs.declared.watch.Watch.{Watch}
 use Rattle.kp_watch.specs.declared.kind.Kind.{Kind}
 use Rattle.kp_watch.specs.declared.kind.Kind.TheVariants as kind
 use Rattle.kp_watch.specs.declared.sides.Sides.{Sides}
-use Rattle.kp_watch.specs.Watching.{same_kind, is_at, same_watch, is_of}
+use Rattle.kp_watch.specs.Watching.{same_kind, is_at, same_watch}
 use Rattle.kp_watch.specs.Spots.{number_of}
 use Rattle.kp_watch.specs.Indexed.{is_number, passes, AreBeside}
 

@@ -2,11 +2,10 @@
 use Rattle.std.proofs.Common.{◌≡◌, ℕ, ◌+◌, ◌<◌, Bool, true, false, cond, nat_eq, not, ◌&&◌, ◌||◌, List, [], ◌∷◌, ◌++◌, Option, Some, None, is_some, refl, ap, sym, subst, ◌∙◌, arith}
 use Rattle.std.specs.Prelude.{map, OnOk, OnErr, Result, Ok, Err}
 use Rattle.std.specs.Result.{is_err}
-use Rattle.std.specs.List.{filter, list_any, flat_map, IsDistinct, AllByRecursion}
-use Rattle.std.specs.declared.cmp.Ordering.{Ordering}
-use Rattle.std.specs.declared.cmp.Ordering.TheVariants.{Less, Equal, Greater}
-use Rattle.std.specs.Ordering.{eq_by_cmp, match_ordering, nat_cmp}
-use Rattle.std.specs.Cmp.{nat_eq_equiv, unsigned_tied, nat_cmp_is}
+use Rattle.std.specs.List.{filter, list_any, flat_map, IsDistinct}
+use Rattle.std.specs.declared.cmp.Ordering.TheVariants.{Greater}
+use Rattle.std.specs.Ordering.{match_ordering, nat_cmp}
+use Rattle.std.specs.Cmp.{nat_eq_equiv, nat_cmp_is}
 use Rattle.std.specs.BTreeMap.{insert_entry}
 use Rattle.std.specs.BTreeSet.{BTreeSet}
 use Rattle.std.proofs.lemmas.Bool.{eqb-true}
@@ -17,12 +16,11 @@ use Rattle.kp_watch.specs.Watching.{is_at, same_watch, is_of, dropped, watching}
 use Rattle.kp_watch.specs.Spots.{Pairs, AreApart, pairs_of, number_of, number_among}
 use Rattle.kp_watch.specs.Owners.{is_own, is_within, set_of}
 use Rattle.kp_watch.specs.Numbered.{Numbered, watches_of, watch_at, conn_at, AreOrdered, Lists}
-use Rattle.kp_watch.specs.Indexed.{is_number, passes, AreBeside, AreOwned, AreIndexed, AreBelow}
+use Rattle.kp_watch.specs.Indexed.{is_number, passes, AreBeside, AreIndexed, AreBelow}
 use Rattle.kp_watch.proofs.Beside.{no, same_exact, beside_spotless, beside_more, beside_same}
 use Rattle.kp_watch.proofs.Owned.{owned_spotless, owned_without, owned_more, owned_same}
 use Rattle.kp_watch.proofs.Paired.{pair_is, number_is, numbers_differ, among}
 use Rattle.kp_watch.proofs.Numbering.{AreKnown, all_known, gone, any_found, none_found, numbers_are, conns_are}
-use Rattle.kp_watch.proofs.Spotted.{none_apart}
 
 -- ---- the two ends of a call
 pub not_err : {T E : Type 0} (r : Result T E) {P : Type 0} → is_err r ≡ false → OnOk r P → P

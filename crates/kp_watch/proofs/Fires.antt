@@ -1,18 +1,17 @@
 -- Events that fire one after another, seen from the watches before them.
-use Rattle.std.proofs.Common.{◌≡◌, ℕ, Bool, true, false, cond, nat_eq, not, ◌&&◌, List, [], ◌∷◌, ◌++◌, append_assoc, append-nil, Option, Some, None, refl, ap, sym, subst, ◌∙◌}
+use Rattle.std.proofs.Common.{◌≡◌, ℕ, Bool, true, false, cond, not, ◌&&◌, List, [], ◌∷◌, ◌++◌, append_assoc, append-nil, Some, refl, ap, sym, ◌∙◌}
 use Rattle.std.specs.Prelude.{map, slice_get}
-use Rattle.std.specs.List.{filter, list_any}
+use Rattle.std.specs.List.{filter}
 use Rattle.std.specs.Str.{bytes_eq}
-use Rattle.std.proofs.lemmas.Slice.Eq.{bytes_eq-Decides}
 use Rattle.kp_model.specs.declared.reply.Event.{Event}
 use Rattle.kp_watch.specs.declared.watch.Watch.{Watch}
 use Rattle.kp_watch.specs.declared.watch.Fired.{Fired}
 use Rattle.kp_watch.specs.declared.kind.Kind.{Kind}
 use Rattle.kp_watch.specs.declared.kind.Kind.TheVariants as kind
 use Rattle.kp_watch.specs.declared.gone.Gone.{Gone}
-use Rattle.kp_watch.specs.Watching.{same_kind, is_at, watching, others, hearing, unfired, pairs_of, fired, heard_at, shown, somes, Firing}
+use Rattle.kp_watch.specs.Watching.{same_kind, is_at, watching, hearing, unfired, pairs_of, fired, heard_at, shown, somes}
 use Rattle.kp_watch.specs.Gone.{has_gone, Leaves}
-use Rattle.kp_watch.proofs.Beside.{no, left, right, same_path, same_kinds}
+use Rattle.kp_watch.proofs.Beside.{no, left, same_path, same_kinds}
 
 -- ---- without the watches of one path and kind
 abbrev is_there : List ℕ → Kind → List ℕ → Kind → Bool

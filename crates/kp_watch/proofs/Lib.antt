@@ -6,3 +6,4 @@ pub mod Numbering
 pub mod Paired
 pub mod Cleared
 pub mod Fires
+pub mod Grows

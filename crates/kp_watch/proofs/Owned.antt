@@ -2,7 +2,6 @@
 use Rattle.std.proofs.Common.{◌≡◌, ℕ, Bool, true, false, cond, nat_eq, not, ◌&&◌, ◌||◌, List, Option, Some, None, refl, ap, sym, ◌∙◌}
 use Rattle.std.proofs.lemmas.Bool.{eqb-true}
 use Rattle.std.specs.BTreeSet.{BTreeSet}
-use Rattle.std.specs.Cmp.{nat_eq_equiv}
 use Rattle.kp_watch.specs.declared.watch.Watch.{Watch}
 use Rattle.kp_watch.specs.declared.kind.Kind.{Kind}
 use Rattle.kp_watch.specs.Watching.{is_at, same_watch, is_of}
@@ -33,6 +32,22 @@ module _ (own own' : List (ℕ × BTreeSet ℕ)) (look look' : ℕ → Option Wa
     by : (b : Bool) → (b ≡ true → m ≡ n) → (is_own own c n || (nat_eq w.conn c && b)) ≡ passes (is_of c) (cond b (Some w) (look n))
     by true same = ap (λ x. x || (nat_eq w.conn c && true)) (h c n ∙ ap (λ k. passes (is_of c) (look k)) (sym (same refl)) ∙ ap (passes (is_of c)) free) ∙ and_true (nat_eq w.conn c)
     by false same = ap (λ x. is_own own c n || x) (and_false (nat_eq w.conn c)) ∙ or_false (is_own own c n) ∙ h c n
+
+  -- a watch less
+  pub owned_less : (m : ℕ) (w : Watch) → look m ≡ Some w → ((n : ℕ) → look' n ≡ cond (nat_eq m n) None (look n)) → ((c n : ℕ) → is_own own' c n ≡ (is_own own c n && not (nat_eq w.conn c && nat_eq m n))) → AreOwned own' look'
+  owned_less m w at gone left c n = left c n ∙ by (nat_eq m n) (eqb-true m n) ∙ sym (ap (passes (is_of c)) (gone n)) where
+    not_itself : (x : Bool) → (x && not (x && true)) ≡ false
+    not_itself true = refl
+    not_itself false = refl
+
+    stays : (x y : Bool) → (x && not (y && false)) ≡ x
+    stays true true = refl
+    stays true false = refl
+    stays false y = refl
+
+    by : (b : Bool) → (b ≡ true → m ≡ n) → (is_own own c n && not (nat_eq w.conn c && b)) ≡ passes (is_of c) (cond b None (look n))
+    by true same = ap (λ x. x && not (nat_eq w.conn c && true)) (h c n ∙ ap (λ k. passes (is_of c) (look k)) (sym (same refl)) ∙ ap (passes (is_of c)) at) ∙ not_itself (nat_eq w.conn c)
+    by false same = stays (is_own own c n) (nat_eq w.conn c) ∙ h c n
 
   -- a spot less
   pub owned_spotless : (path : List ℕ) (kind : Kind) → ((n : ℕ) → look' n ≡ cond (passes (is_at path kind) (look n)) None (look n))

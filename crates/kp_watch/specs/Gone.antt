@@ -1,5 +1,5 @@
 -- The paths whose watches have fired, while the events of a list fire one after another.
-use Rattle.std.specs.Prelude.{◌≡◌, ℕ, Bool, cond, List, [], String, string_bytes}
+use Rattle.std.specs.Prelude.{◌≡◌, ℕ, Bool, cond, List, [], String}
 use Rattle.std.specs.HashSet.{HashSet, contains_text}
 use Rattle.kp_watch.specs.declared.kind.Kind.{Kind}
 use Rattle.kp_watch.specs.declared.kind.Kind.TheVariants as kind

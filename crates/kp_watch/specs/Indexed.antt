@@ -1,5 +1,5 @@
 -- What the indexes of the watches say of them.
-use Rattle.std.specs.Prelude.{◌≡◌, ℕ, ◌<◌, Bool, false, List, Option, Some, None, map, nat_eq}
+use Rattle.std.specs.Prelude.{◌≡◌, ℕ, ◌<◌, Bool, false, List, Option, Some, None, nat_eq}
 use Rattle.std.specs.BTreeSet.{BTreeSet}
 use Rattle.kp_watch.specs.declared.watch.Watch.{Watch}
 use Rattle.kp_watch.specs.declared.kind.Kind.{Kind}

@@ -1,5 +1,5 @@
 -- The watches of each path: their connections, each with the number of its watch.
-use Rattle.std.specs.Prelude.{◌≡◌, ℕ, List, [], Option, Some, None, String, string_bytes, nat_eq, map}
+use Rattle.std.specs.Prelude.{ℕ, List, [], Option, Some, None, String, string_bytes, nat_eq, map}
 use Rattle.std.specs.List.{IsDistinct}
 use Rattle.std.specs.Str.{bytes_eq}
 use Rattle.std.specs.Map.{lookup}

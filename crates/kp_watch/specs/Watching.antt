@@ -1,14 +1,15 @@
 -- Watches: which connection hears of which path, and what events make of them.
-use Rattle.std.specs.Prelude.{ℕ, ℤ, pos, negsuc, Bool, true, false, not, ◌&&◌, ◌==◌, nat_eq, nat_lt, if◌then◌else◌, List, [], ◌∷◌, ◌++◌, map, Option, Some, None, slice_get}
+use Rattle.std.specs.Prelude.{◌≡◌, ℕ, Bool, true, false, not, ◌&&◌, nat_eq, nat_lt, if◌then◌else◌, List, [], ◌∷◌, ◌++◌, map, Option, Some, None, slice_get}
 use Rattle.std.specs.List.{list_any, filter}
 use Rattle.std.specs.Str.{bytes_eq}
-use Rattle.std.specs.FinMap as map
 use Rattle.kp_model.specs.declared.reply.Event.{Event}
 use Rattle.kp_model.specs.declared.reply.Event.TheVariants as event
-use Rattle.kp_model.specs.declared.node.Node.{Node}
-use Rattle.kp_model.specs.State.{Nodes}
+use Rattle.kp_model.specs.declared.node.Meta.{Meta}
+use Rattle.kp_model.specs.State.{Nodes, meta_at}
 use Rattle.kp_watch.specs.declared.watch.Watch.{Watch}
 use Rattle.kp_watch.specs.declared.watch.Fired.{Fired}
+use Rattle.kp_watch.specs.declared.again.Line.{Line}
+use Rattle.kp_watch.specs.declared.again.Line.TheVariants as line
 use Rattle.kp_watch.specs.declared.kind.Kind.{Kind}
 use Rattle.kp_watch.specs.declared.kind.Kind.TheVariants as kind
 
@@ -84,34 +85,45 @@ shown es fs = map (λ (f : Fired). (f.conn, slice_get es f.at)) fs
 abbrev pub somes : List (ℕ × Event) → List (ℕ × Option Event)
 somes ps = map (λ (p : ℕ × Event). (p.0, Some p.1)) ps
 
--- ---- setWatches: what changed since an index fires at once, other watches are set
+-- ---- watches that are set anew: what changed since an index fires at once, other watches are set
 
--- the event that a path owes, or the watch that is set there
-abbrev pub owed_data : ℕ → List ℕ → Option Node → Option Event
-owed_data since p None = Some (event.Deleted p)
-owed_data since p (Some n) = if nat_lt since n.mzxid then Some (event.DataChanged p) else None
+-- the kind of the watches of a list
+abbrev pub line_kind : Line → Kind
+line_kind line.Data = kind.Data
+line_kind line.Exist = kind.Data
+line_kind line.Child = kind.Child
 
-abbrev pub owed_exist : List ℕ → Option Node → Option Event
-owed_exist p None = None
-owed_exist p (Some n) = Some (event.Created p)
-
-abbrev pub owed_child : ℕ → List ℕ → Option Node → Option Event
-owed_child since p None = Some (event.Deleted p)
-owed_child since p (Some n) = if nat_lt since n.pzxid then Some (event.ChildrenChanged p) else None
+-- the event that a path owes, where a node with these numbers is there or none; None where the watch is set
+abbrev pub owed : Line → ℕ → List ℕ → Option Meta → Option Event
+owed line.Data since p None = Some (event.Deleted p)
+owed line.Data since p (Some m) = if nat_lt since m.mzxid then Some (event.DataChanged p) else None
+owed line.Exist since p None = None
+owed line.Exist since p (Some m) = Some (event.Created p)
+owed line.Child since p None = Some (event.Deleted p)
+owed line.Child since p (Some m) = if nat_lt since m.pzxid then Some (event.ChildrenChanged p) else None
 
 -- one path: it fires, or the watch is set
-abbrev pub set_one : ℕ → Kind → List ℕ → Option Event → Firing → Firing
-set_one c k p (Some e) f = record { pairs = f.pairs ++ (c, e) ∷ []; left = f.left }
-set_one c k p None f = record { pairs = f.pairs; left = added f.left (record { path = p; kind = k; conn = c }) }
+abbrev pub set_one : ℕ → Line → List ℕ → Option Event → Firing → Firing
+set_one c l p (Some e) f = record { pairs = f.pairs ++ (c, e) ∷ []; left = f.left }
+set_one c l p None f = record { pairs = f.pairs; left = added f.left (record { path = p; kind = line_kind l; conn = c }) }
 
--- the paths of a line one after another
-unfoldable pub set_line : ℕ → Kind → (List ℕ → Option Event) → List (List ℕ) → Firing → Firing
-set_line c k owed [] f = f
-set_line c k owed (p ∷ ps) f = set_line c k owed ps (set_one c k p (owed p) f)
+-- the paths of a list one after another
+unfoldable pub set_line : Nodes → ℕ → ℕ → Line → List (List ℕ) → Firing → Firing
+set_line nodes c since l [] f = f
+set_line nodes c since l (p ∷ ps) f = set_line nodes c since l ps (set_one c l p (owed l since p (meta_at nodes p)) f)
 
-unfoldable pub set_again : List Watch → Nodes → ℕ → ℕ → List (List ℕ) → List (List ℕ) → List (List ℕ) → Firing
+-- the three lists one after another
+abbrev pub set_again : List Watch → Nodes → ℕ → ℕ → List (List ℕ) → List (List ℕ) → List (List ℕ) → Firing
 set_again ws nodes c since contents exist child =
-    set_line c kind.Child (λ p. owed_child since p (map.get nodes p)) child
-    (set_line c kind.Data (λ p. owed_exist p (map.get nodes p)) exist
-    (set_line c kind.Data (λ p. owed_data since p (map.get nodes p)) contents
+    set_line nodes c since line.Child child
+    (set_line nodes c since line.Exist exist
+    (set_line nodes c since line.Data contents
     (record { pairs = []; left = ws })))
+
+-- the events as those of one connection, and the watches that are left
+abbrev pub shows : ℕ → List Event → List Watch → Firing
+shows c es ws = record { pairs = map (λ (e : Event). (c, e)) es; left = ws }
+
+-- no watch went, and each kept its place
+abbrev pub Grown : List Watch → List Watch → Type 0
+Grown old new = (more : List Watch) × (new ≡ old ++ more)

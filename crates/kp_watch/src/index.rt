@@ -1,5 +1,5 @@
 //! The watches by their numbers, and the changes that keep the indexes in step with them.
-ghost use Rattle.std.specs.Prelude.{◌≡◌, ℕ, ◌+◌, List, Option, Some, None, false, cond, nat_eq, ◌&&◌, ◌||◌, not, [], ◌∷◌, ◌++◌, OnOk, OnErr, IfOk};
+ghost use Rattle.std.specs.Prelude.{◌≡◌, ℕ, ◌+◌, ◌<◌, length, List, Option, Some, None, false, cond, nat_eq, ◌&&◌, ◌||◌, not, [], ◌∷◌, ◌++◌, OnOk, OnErr, IfOk};
 ghost use Rattle.std.specs.List.{filter, list_any, flat_map, IsDistinct};
 ghost use Rattle.std.specs.Ordering.{nat_cmp};
 ghost use Rattle.std.specs.BTreeMap.{insert_entry};
@@ -222,4 +222,18 @@ pub fn conns_at(
 {
     let numbers = in_order(numbers_at(sides, alloc, path, kind)?);
     conns_of(book, alloc, &numbers)
+}
+
+/// Takes the last watch away, if there is one.
+pub fn clear_last(book: &mut Book, sides: &mut Sides, own: &mut Owners)
+    requires { AreIndexed book.old.entries sides.old own.old.entries }
+    ensures indexed { AreIndexed book.new.entries sides.new own.new.entries }
+    ensures below { (next : ℕ) → AreBelow next book.old.entries → AreBelow next book.new.entries }
+    ensures last { 0 < length book.old.entries → (e : ℕ × Watch) × (book.old.entries ≡ book.new.entries ++ e ∷ []) }
+{
+    if let Some((number, watch)) = book.pop_last() {
+        take_watch(sides, watch.path.as_str(), watch.kind, watch.conn);
+        leave(own, watch.conn, number);
+        drop(watch);
+    }
 }

@@ -1,6 +1,7 @@
 //! Watches: which connection hears of what is done at which path.
 #![tactic(auto)]
 
+mod again;
 mod firing;
 mod gone;
 mod index;

@@ -1,9 +1,10 @@
 //! The watches, in order of registration.
-ghost use Rattle.std.specs.Prelude.{◌≡◌, ◌∷◌, ◌++◌, [], ◌≤◌, length, take, false, not, slice_get, IfOk, OnOk, OnErr, option_copied};
+ghost use Rattle.std.specs.Prelude.{◌≡◌, ◌∷◌, ◌++◌, [], ◌<◌, length, map, false, not, slice_get, IfOk, OnOk, OnErr, option_copied};
 ghost use Rattle.std.specs.List.{filter, list_any};
+ghost use Rattle.kp_watch.specs.declared.watch.Watch.{Watch};
 ghost use Rattle.kp_watch.specs.Watching.{same_watch, added, dropped, is_at, watching, unfired};
 
-use crate::index::{Book, clear_conn, clear_spot, conns_at, enter_watch, is_there};
+use crate::index::{Book, clear_conn, clear_last, clear_spot, conns_at, enter_watch, is_there};
 use crate::kind::Kind;
 use crate::owners::Owners;
 use crate::sides::Sides;
@@ -135,6 +136,32 @@ impl Watches {
         ensures { self.new ≡ filter (λ w. not (is_at path.now kind w)) self.old }
     {
         clear_spot(&mut self.book, &mut self.sides, &mut self.own, path, kind);
+    }
+
+    /// Takes the last watch away, if there is one.
+    pub(crate) fn pop(&mut self)
+        ensures { 0 < length self.old → (w : Watch) × (self.old ≡ self.new ++ w ∷ []) }
+    {
+        clear_last(&mut self.book, &mut self.sides, &mut self.own);
+    }
+
+    /// The watch at the place in order of registration, counted from 0. It costs the place; `list`
+    /// lists them all at once.
+    pub fn at(&self, k: usize) -> Option<&Watch>
+        ensures { option_copied result ≡ slice_get self.now k }
+    {
+        self.book.values().nth(k)
+    }
+
+    /// The watches in order of registration.
+    pub fn list(&self, alloc: Global) -> Result<Vec<&Watch>, NoMemory>
+        ensures { IfOk result (λ list. map (λ w. w.now) list.items ≡ self.now) }
+    {
+        let mut list = Vec::with_capacity(alloc, self.book.len())?;
+        for watch in self.book.values() {
+            list.push(watch)?;
+        }
+        Ok(list)
     }
 
     /// The allocator.

@@ -1,5 +1,4 @@
-use Rattle.std.proofs.Common.{◌≡◌, ◌∙◌, sym, refl, ap, cond, Some, None, nat_eq}
-use Rattle.std.specs.List.{list_any}
+use Rattle.std.proofs.Common.{◌∙◌, sym, refl, ap, cond, Some, None}
 use Rattle.std.specs.Cmp.{unsigned_tied}
 use Rattle.kp_watch.specs.Numbered.{watch_at}
 use Rattle.kp_watch.proofs.Cleared.{conn_watches, conn_cleared}

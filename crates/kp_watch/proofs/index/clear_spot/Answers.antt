@@ -1,5 +1,4 @@
-use Rattle.std.proofs.Common.{◌≡◌, ◌∙◌, sym, refl, false, []}
-use Rattle.kp_watch.specs.Numbered.{AreOrdered}
+use Rattle.std.proofs.Common.{refl, []}
 use Rattle.kp_watch.proofs.Cleared.{spot_watches, spot_cleared}
 use Rattle.kp_watch.proofs.Spotted.{none_apart}
 use Rattle.kp_watch.proofs.index.clear_spot.Goals as goal

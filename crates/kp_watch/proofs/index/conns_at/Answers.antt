@@ -1,8 +1,6 @@
-use Rattle.std.proofs.Common.{◌≡◌, ◌∙◌, sym, ap}
+use Rattle.std.proofs.Common.{◌∙◌, ap}
 use Rattle.std.specs.List.{flat_map}
 use Rattle.std.proofs.lemmas.Result.{IfOk-weaker}
-use Rattle.kp_watch.specs.Watching.{is_at}
-use Rattle.kp_watch.specs.Spots.{pairs_of}
 use Rattle.kp_watch.specs.Numbered.{watch_at, conn_at}
 use Rattle.kp_watch.proofs.Cleared.{conns_listed}
 use Rattle.kp_watch.proofs.index.conns_at.Goals as goal

@@ -1,4 +1,4 @@
-use Rattle.std.proofs.Common.{◌≡◌, ap, sym, ◌∙◌, cond, None}
+use Rattle.std.proofs.Common.{ap, sym, ◌∙◌, cond, None}
 use Rattle.std.specs.Cmp.{unsigned_tied}
 use Rattle.kp_watch.specs.Numbered.{watch_at}
 use Rattle.kp_watch.specs.Watching.{same_watch}

@@ -1,4 +1,4 @@
-use Rattle.std.proofs.Common.{◌≡◌, ◌∙◌, sym, ap, cond, Some, nat_eq}
+use Rattle.std.proofs.Common.{◌∙◌, sym, ap, cond, Some, nat_eq}
 use Rattle.std.specs.BTreeMap.{insert_entry}
 use Rattle.std.specs.Ordering.{nat_cmp}
 use Rattle.kp_watch.specs.declared.watch.Watch.{Watch}

@@ -1,4 +1,4 @@
-use Rattle.std.proofs.Common.{◌≡◌, ◌∙◌, sym, ap, is_some}
+use Rattle.std.proofs.Common.{◌∙◌, ap, is_some}
 use Rattle.kp_watch.proofs.Cleared.{there}
 use Rattle.kp_watch.proofs.index.is_there.Goals as goal
 

@@ -1,4 +1,4 @@
-use Rattle.std.proofs.Common.{ap, sym, ◌∙◌}
+use Rattle.std.proofs.Common.{ap, sym}
 use Rattle.kp_watch.specs.Spots.{pairs_in}
 use Rattle.kp_watch.proofs.Spotted.{none_apart}
 use Rattle.kp_watch.proofs.spots.numbers.Goals as goal

@@ -1,11 +1,10 @@
-use Rattle.std.proofs.Common.{◌≡◌, ap, sym, ◌∙◌, cond, Some, None, nat_eq, rules}
+use Rattle.std.proofs.Common.{ap, sym, ◌∙◌, cond, Some, nat_eq}
 use Rattle.std.specs.Map.{lookup}
 use Rattle.std.specs.Str.{bytes_eq}
 use Rattle.std.specs.Prelude.{string_bytes}
 use Rattle.std.proofs.lemmas.Map.Text.{hash_map_updates_text}
-use Rattle.std.proofs.lemmas.Result.{on_ok_weaker, on_err_weaker}
 use Rattle.kp_watch.specs.Spots.{spot_at, number_in}
-use Rattle.kp_watch.proofs.Spotted.{number_set, numbers_same, numbers_gone, number_and_spot}
+use Rattle.kp_watch.proofs.Spotted.{number_set}
 use Rattle.kp_watch.proofs.spots.put_first.Goals as goal
 
 pub returns-clause-ok : goal.returns-clause-ok

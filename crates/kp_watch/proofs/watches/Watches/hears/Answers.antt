@@ -1,4 +1,4 @@
-use Rattle.std.proofs.Common.{◌≡◌, ◌∙◌, sym}
+use Rattle.std.proofs.Common.{◌∙◌, sym}
 use Rattle.kp_watch.proofs.Fires.{hears_none, hears_again, hears_first, not_true, not_false}
 use Rattle.kp_watch.proofs.watches.Watches.hears.Goals as goal
 

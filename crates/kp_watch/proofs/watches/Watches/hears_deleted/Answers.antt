@@ -1,4 +1,4 @@
-use Rattle.std.proofs.Common.{◌≡◌, ◌∙◌, ◌++◌, List, ℕ, sym, ap}
+use Rattle.std.proofs.Common.{◌∙◌, ◌++◌, List, ℕ, ap}
 use Rattle.kp_watch.specs.declared.kind.Kind.TheVariants as kind
 use Rattle.kp_watch.specs.Watching.{watching, others}
 use Rattle.kp_watch.proofs.Fires.{child_watches_stay}

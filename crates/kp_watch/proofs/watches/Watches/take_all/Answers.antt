@@ -1,4 +1,4 @@
-use Rattle.std.proofs.Common.{◌≡◌, ◌+◌, ◌∙◌, ◌∷◌, [], List, drop, sym, ap}
+use Rattle.std.proofs.Common.{◌+◌, ◌∙◌, ◌∷◌, List, drop, sym, ap}
 use Rattle.std.proofs.lemmas.List.{drop_more, drop_all}
 use Rattle.kp_model.specs.declared.reply.Event.{Event}
 use Rattle.kp_watch.specs.Watching.{fired}

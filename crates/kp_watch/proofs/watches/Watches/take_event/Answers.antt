@@ -1,4 +1,4 @@
-use Rattle.std.proofs.Common.{◌≡◌, ◌∙◌, sym, ap, not}
+use Rattle.std.proofs.Common.{◌∙◌, sym, ap, not}
 use Rattle.std.specs.List.{filter}
 use Rattle.kp_watch.specs.declared.kind.Kind.TheVariants as kind
 use Rattle.kp_watch.specs.Watching.{is_at, unfired}

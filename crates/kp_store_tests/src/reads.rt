@@ -1,6 +1,6 @@
 //! Questions to the committed state of a storage.
-ghost use Rattle.std.specs.Prelude.{◌≤◌, length, IsTrue};
-ghost use Rattle.kp_model.specs.Grammar.{fits_cmd};
+ghost use Rattle.std.specs.Prelude.{◌≤◌, length, IfOk, IsTrue};
+ghost use Rattle.kp_model.specs.Grammar.{fits_acls, fits_cmd};
 
 use kp_model::{Acl, Acls, Body, Bytes, Cmd, Entry, NoMemory, Origin, ReadCmd, ReadReply, Text};
 use kp_storage::Storage;
@@ -57,7 +57,9 @@ fn enter(store: &mut Storage, seq: u64, cmd: Cmd) -> Result<(), NoMemory>
 }
 
 // A list of one line, for everyone.
-fn for_everyone(alloc: Global, perms: u32) -> Result<Acls, NoMemory> {
+fn for_everyone(alloc: Global, perms: u32) -> Result<Acls, NoMemory>
+    ensures { IfOk result (λ lines. IsTrue (fits_acls lines)) }
+{
     let mut lines = Vec::new(alloc);
     lines.push(Acl {
         perms,

@@ -5,6 +5,7 @@ ghost use Rattle.kp_model.specs.Good.{IsSound};
 ghost use Rattle.kp_model.specs.Grammar.{is_entry};
 ghost use Rattle.kp_model.specs.State.{meta_at, bytes_at};
 ghost use Rattle.kp_model.specs.LogEntry.{LogEntry};
+ghost use Rattle.kp_model.specs.Reads.{read_answer};
 ghost use Rattle.kp_model.specs.Touched.{touched};
 ghost use Rattle.kp_model.specs.Store.{after, latest as latest_of, last as last_of, empty, with_entry, kept as kept_of, truncated, commit_answer, commit_leaves};
 ghost use Rattle.kp_cells.specs.Mapped.{kept as those};
@@ -14,8 +15,9 @@ ghost use Rattle.kp_prep.specs.Touching.{AreWithin, layer_keys};
 ghost use Rattle.kp_storage.specs.Kept.{IsLayered};
 
 use kp_cells::{Cells, CommittedView, LatestView};
-use kp_model::{Committed, Entry, Meta, NoMemory, Reply, Session};
+use kp_model::{Committed, Entry, Meta, NoMemory, ReadCmd, ReadReply, Reply, Session};
 use kp_prep::{Prepared, prepare};
+use kp_read::answer;
 use std::alloc::Global;
 use std::collections::VecDeque;
 use std::marker::Model;
@@ -24,7 +26,7 @@ use std::marker::Model;
 /// a layer over the committed state, so that the uncommitted state, which is the replay of the entries
 /// on the committed one, is looked up and not replayed.
 ///
-/// No call but `new` and `preprocess` takes memory. Where `preprocess` finds none, it answers
+/// No call but `new`, `preprocess` and `read` takes memory. Where `preprocess` finds none, it answers
 /// `NoMemory`, and the storage is as it was.
 #[derive(Drop)]
 pub struct Storage {
@@ -231,6 +233,15 @@ impl Storage {
         ensures { option_copied result ≡ map.get self.now.state.sessions id }
     {
         self.cells.committed_session(id)
+    }
+
+    /// What a session is answered that looks at a node of the committed state: -8 for a malformed path, -101 where there
+    /// is no such node, -102 where the session lacks the right (READ for data and children, READ or ADMIN for an access
+    /// list), or what is asked for.
+    pub fn read(&self, session: u64, cmd: &ReadCmd) -> Result<ReadReply, NoMemory>
+        ensures { IfOk result (λ r. r ≡ read_answer self.now.state session cmd.now) }
+    {
+        answer(self.alloc, &self.committed(), session, cmd)
     }
 
     /// How many nodes the committed state has. Costs the same however many there are, as the two

@@ -13,4 +13,6 @@ mod nodes;
 #[cfg(test)]
 mod plain;
 #[cfg(test)]
+mod reads;
+#[cfg(test)]
 mod stories;

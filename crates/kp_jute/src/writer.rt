@@ -12,6 +12,9 @@ use std::marker::Model;
 /// The greatest length or count that its int can hold.
 const MOST: u32 = 0x7fff_ffff;
 
+/// The bytes for which a packet begins with room: those of most replies, so that most take memory once.
+const FIRST_ROOM: usize = 256;
+
 /// The bytes that were written. A call that answers `NoMemory` leaves them as they were.
 #[derive(Drop)]
 pub struct Writer {
@@ -40,7 +43,9 @@ impl Writer {
     pub fn for_packet(alloc: Global) -> Result<Writer, NoMemory>
         ensures { IfOk result (λ w. w ≡ gap) }
     {
-        let mut writer = Writer::new(alloc);
+        let mut writer = Writer {
+            bytes: Vec::with_capacity(alloc, FIRST_ROOM)?,
+        };
         writer.raw(&[0, 0, 0, 0])?;
         Ok(writer)
     }

@@ -8,3 +8,5 @@ mod connection;
 mod cutting;
 #[cfg(test)]
 mod frames;
+#[cfg(test)]
+mod words;

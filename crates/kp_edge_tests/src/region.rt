@@ -13,13 +13,14 @@ fn runs_on(region: &mut Region) -> bool
     let spared = region.spare_records() == 1 && region.spare_bytes() == 1;
     let popped = region.pop_back();
     let again = region.push(&[4]);
-    let lent = region.get(2) == Some([4].as_slice());
+    let lent = region.get(2) == Some([4].as_slice())
+        && region.run(1, 2) == Some([1, 2, 4].as_slice());
     marks == (1, 2) && counted && spared && popped && again == 2 && lent
 }
 
 // Whether both strings go at the front, and then no other does.
 fn runs_out(region: &mut Region) -> bool {
-    let first = region.pop_front() && region.get(1).is_none();
+    let first = region.pop_front() && region.get(1).is_none() && region.run(1, 2).is_none();
     first && region.pop_front() && !region.pop_front() && region.first() == 3
 }
 

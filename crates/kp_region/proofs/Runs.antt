@@ -1,10 +1,10 @@
 -- Runs of spans: where each lies, and what stays of its bytes when the window changes.
-use Rattle.std.proofs.Common.{◌≡◌, ℕ, zero, suc, ◌+◌, ◌-◌, ◌≤◌, List, [], ◌∷◌, ◌++◌, length, take, drop, map, refl, sym, ◌∙◌, ap, subst, arith, Some, slice_get}
+use Rattle.std.proofs.Common.{◌≡◌, ℕ, zero, suc, ◌+◌, ◌-◌, ◌≤◌, List, [], ◌∷◌, ◌++◌, length, take, drop, map, refl, sym, ◌∙◌, ap, subst, arith, Option, Some, slice_get}
 use Rattle.std.specs.List.{flat_map}
-use Rattle.std.proofs.lemmas.List.{drop-drop, drop-take, drop_all, take-append-drop}
-use Rattle.std.proofs.Math.Seq.{take-append_seam, take-take, drop-append_seam, take-length}
+use Rattle.std.proofs.lemmas.List.{drop-drop, drop-map, drop-take, drop_all, length-drop, take-append-drop}
+use Rattle.std.proofs.Math.Seq.{take-append_seam, take-take, take-add, drop-append_seam, take-length}
 use Rattle.kp_region.specs.declared.region.Span.{Span}
-use Rattle.kp_region.specs.Spans.{bytes_of, IsRun}
+use Rattle.kp_region.specs.Spans.{bytes_of, start_or, IsRun}
 
 pub run_le : (a : ℕ) (ss : List Span) (e : ℕ) → IsRun a ss e → a ≤ e
 run_le a [] e h = omega (arith, h)
@@ -86,3 +86,60 @@ joined start a (s ∷ ss) e bytes le end h =
     ∙ ap (λ n. take s.len (drop (a - start) bytes) ++ drop n bytes) (sym on)
     ∙ ap (λ l. take s.len (drop (a - start) bytes) ++ l) (sym (drop-drop s.len (a - start) bytes) ∙ λ i. drop s.len (drop (a - start) bytes))
     ∙ take-append-drop s.len (drop (a - start) bytes)
+
+-- ---- adjacent strings
+
+-- a run from one of its spans on
+pub run_from : (a : ℕ) (ss : List Span) (e i : ℕ) → i ≤ length ss → IsRun a ss e → IsRun (start_or e (slice_get ss i)) (drop i ss) e
+run_from a [] e zero le h = refl
+run_from a (s ∷ ss) e zero le h = (refl, subst (λ (x : ℕ). IsRun (x + s.len) ss e) (sym h.0) h.1)
+run_from a [] e (suc i) le h = refl
+run_from a (s ∷ ss) e (suc i) le h = run_from (a + s.len) ss e i (omega (arith, le)) h.1
+
+-- each span begins within the run
+pub begins_within : (a : ℕ) (ss : List Span) (e i : ℕ) → i ≤ length ss → IsRun a ss e → (a ≤ start_or e (slice_get ss i)) × (start_or e (slice_get ss i) ≤ e)
+begins_within a [] e zero le h = (omega (arith, h), omega arith)
+begins_within a (s ∷ ss) e zero le h = let on : a ≤ e = run_le a (s ∷ ss) e h in (omega (arith, h.0), omega (arith, h.0, on))
+begins_within a [] e (suc i) le h = (omega (arith, h), omega arith)
+begins_within a (s ∷ ss) e (suc i) le h = let r = begins_within (a + s.len) ss e i (omega (arith, le)) h.1 in (omega (arith, r.0), r.1)
+
+-- the first strings of a run, one behind the other
+first_joined : (start a : ℕ) (ss : List Span) (e n : ℕ) (bytes : List ℕ) → start ≤ a → n ≤ length ss → IsRun a ss e → flat_map (λ s. s) (take n (map (bytes_of start bytes) ss)) ≡ take (start_or e (slice_get ss n) - a) (drop (a - start) bytes)
+first_joined start a [] e zero bytes le few h = let none : e - a ≡ 0 = omega (arith, h) in ap (λ n. take n (drop (a - start) bytes)) (sym none)
+first_joined start a (s ∷ ss) e zero bytes le few h = let none : s.start - a ≡ 0 = omega (arith, h.0) in ap (λ n. take n (drop (a - start) bytes)) (sym none)
+first_joined start a [] e (suc n) bytes le few h = absurd (omega (arith, few))
+first_joined start a (s ∷ ss) e (suc n) bytes le few h =
+    let less : n ≤ length ss = omega (arith, few) in
+    let later : start ≤ a + s.len = omega (arith, le) in
+    let at : s.start - start ≡ a - start = ap (λ x. x - start) h.0 in
+    let on : (a - start) + s.len ≡ (a + s.len) - start = omega (arith, le) in
+    let rest = first_joined start (a + s.len) ss e n bytes later less h.1 in
+    let within = begins_within (a + s.len) ss e n less h.1 in
+    let all : s.len + (start_or e (slice_get ss n) - (a + s.len)) ≡ start_or e (slice_get ss n) - a = omega (arith, within.0) in
+    (λ i. take s.len (drop (at i) bytes) ++ rest i)
+    ∙ ap (λ l. take s.len (drop (a - start) bytes) ++ take (start_or e (slice_get ss n) - (a + s.len)) l) (sym (drop-drop s.len (a - start) bytes ∙ ap (λ m. drop m bytes) on))
+    ∙ sym (take-add s.len (start_or e (slice_get ss n) - (a + s.len)) (drop (a - start) bytes))
+    ∙ ap (λ n. take n (drop (a - start) bytes)) all
+
+get_behind : (i n : ℕ) (ss : List Span) → slice_get (drop i ss) n ≡ slice_get ss (i + n)
+get_behind zero n ss = let same : n ≡ 0 + n = omega arith in ap (slice_get ss) same
+get_behind (suc i) n [] = refl
+get_behind (suc i) n (s ∷ ss) = let next : suc (i + n) ≡ suc i + n = omega arith in get_behind i n ss ∙ ap (slice_get (s ∷ ss)) next
+
+-- a later span begins no earlier
+pub begins_rise : (a : ℕ) (ss : List Span) (e i n : ℕ) → i + n ≤ length ss → IsRun a ss e → start_or e (slice_get ss i) ≤ start_or e (slice_get ss (i + n))
+begins_rise a ss e i n fits h =
+    let le : i ≤ length ss = omega (arith, fits) in
+    let few : n ≤ length (drop i ss) = omega (arith, length-drop i ss, fits) in
+    let within = begins_within (start_or e (slice_get ss i)) (drop i ss) e n few (run_from a ss e i le h) in
+    subst (λ (o : Option Span). start_or e (slice_get ss i) ≤ start_or e o) (get_behind i n ss) within.0
+
+-- adjacent strings of a run, one behind the other
+pub part_joined : (a : ℕ) (ss : List Span) (e i n : ℕ) (bytes : List ℕ) → i + n ≤ length ss → IsRun a ss e → flat_map (λ s. s) (take n (drop i (map (bytes_of a bytes) ss))) ≡ take (start_or e (slice_get ss (i + n)) - start_or e (slice_get ss i)) (drop (start_or e (slice_get ss i) - a) bytes)
+part_joined a ss e i n bytes fits h =
+    let le : i ≤ length ss = omega (arith, fits) in
+    let few : n ≤ length (drop i ss) = omega (arith, length-drop i ss, fits) in
+    let within = begins_within a ss e i le h in
+    (λ k. flat_map (λ s. s) (take n (drop-map (bytes_of a bytes) i ss k)))
+    ∙ first_joined a (start_or e (slice_get ss i)) (drop i ss) e n bytes within.0 few (run_from a ss e i le h)
+    ∙ ap (λ o. take (start_or e o - start_or e (slice_get ss i)) (drop (start_or e (slice_get ss i) - a) bytes)) (get_behind i n ss)

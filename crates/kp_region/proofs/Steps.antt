@@ -1,11 +1,12 @@
 -- What each change of the parts of a region makes of what a caller sees, and that they go on holding together.
-use Rattle.std.proofs.Common.{◌≡◌, ℕ, zero, suc, ◌+◌, ◌-◌, ◌≤◌, ◌<◌, List, [], ◌∷◌, ◌++◌, length, take, drop, map, min, max, refl, sym, ◌∙◌, ap, subst, arith, length-append, Option, Some, None, option_map, slice_get, nat_lt, Bool, true, false, if◌then◌else◌}
+use Rattle.std.proofs.Common.{◌≡◌, ℕ, suc, ◌+◌, ◌-◌, ◌≤◌, List, [], ◌∷◌, ◌++◌, length, take, drop, map, min, refl, sym, ◌∙◌, ap, arith, length-append, Option, Some, None, option_map, slice_get, nat_lt, Bool, false, if◌then◌else◌}
+use Rattle.std.specs.List.{flat_map}
 use Rattle.std.proofs.lemmas.List.{map-append, length-map, length-drop, length-take-le}
 use Rattle.std.proofs.lemmas.Bool.{le-ltb}
 use Rattle.std.proofs.lemmas.Option.{slice_get-map}
 use Rattle.std.proofs.Math.Seq.{take-append_seam}
 use Rattle.kp_region.specs.declared.region.Span.{Span}
-use Rattle.kp_region.specs.Marked.{Marked, with_string, without_first, without_last, string_at}
+use Rattle.kp_region.specs.Marked.{Marked, with_string, without_first, without_last, string_at, run_at}
 use Rattle.kp_region.specs.Spans.{bytes_of, shown, IsRun, HoldsTogether}
 use Rattle.kp_region.specs.Stretch.{Stretch, end_of}
 use Rattle.kp_region.proofs.Runs.{run_le, run_push, run_cut, run_along, texts_cut, texts_more, texts_moved, text_last}
@@ -115,3 +116,11 @@ pub found : (w : Stretch) (ss : List Span) (first records bytes mark : ℕ) (o :
 found w ss first records bytes mark o from e =
     let late : nat_lt mark first ≡ false = le-ltb mark first from in
     ap (option_map (bytes_of w.start w.bytes)) e ∙ sym (slice_get-map (bytes_of w.start w.bytes) ss (mark - first)) ∙ sym (ap (λ (b : Bool). if b then None else slice_get (map (bytes_of w.start w.bytes) ss) (mark - first)) late)
+
+-- the strings of marks from the first on
+pub lent : (w : Stretch) (ss : List Span) (first records bytes mark count : ℕ) → first ≤ mark → (mark - first) + count ≤ length ss → Some (flat_map (λ s. s) (take count (drop (mark - first) (map (bytes_of w.start w.bytes) ss)))) ≡ run_at (shown w ss first records bytes) mark count
+lent w ss first records bytes mark count from fits =
+    let texts : List (List ℕ) = map (bytes_of w.start w.bytes) ss in
+    let late : nat_lt mark first ≡ false = le-ltb mark first from in
+    let there : nat_lt (first + length texts) (mark + count) ≡ false = le-ltb (first + length texts) (mark + count) (omega (arith, from, fits, length-map ss (bytes_of w.start w.bytes))) in
+    sym ((λ i. if late i then None else if nat_lt (first + length texts) (mark + count) then None else Some (flat_map (λ s. s) (take count (drop (mark - first) texts)))) ∙ ap (λ (b : Bool). if b then None else Some (flat_map (λ s. s) (take count (drop (mark - first) texts)))) there)

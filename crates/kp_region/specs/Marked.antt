@@ -1,5 +1,6 @@
 -- What a caller sees of a region: a list of byte strings under running marks.
-use Rattle.std.specs.Prelude.{ℕ, ◌+◌, ◌-◌, min, nat_lt, if◌then◌else◌, List, [], ◌∷◌, ◌++◌, length, take, drop, slice_get, Option, None, refl}
+use Rattle.std.specs.Prelude.{ℕ, ◌+◌, ◌-◌, min, nat_lt, if◌then◌else◌, List, [], ◌∷◌, ◌++◌, length, take, drop, slice_get, Option, Some, None, refl}
+use Rattle.std.specs.List.{flat_map}
 use Rattle.std.specs.Coded.{Coded, code_by, coded×, coded_ℕ, coded_list}
 
 -- the k-th string, counted from 0, has the mark first + k; and for how many further strings, and how many bytes of them, there is room
@@ -24,6 +25,10 @@ next_mark m = m.first + length m.strings
 -- the string of the mark, or None where no string has it
 abbrev pub string_at : Marked → ℕ → Option (List ℕ)
 string_at m mark = if nat_lt mark m.first then None else slice_get m.strings (mark - m.first)
+
+-- the strings of so many marks, one behind the other, of which this mark is the first, or None where not each of these marks is in the list
+abbrev pub run_at : Marked → ℕ → ℕ → Option (List ℕ)
+run_at m mark count = if nat_lt mark m.first then None else if nat_lt (next_mark m) (mark + count) then None else Some (flat_map (λ s. s) (take count (drop (mark - m.first) m.strings)))
 
 -- with one more string at the back, which uses up its room
 abbrev pub with_string : Marked → List ℕ → Marked

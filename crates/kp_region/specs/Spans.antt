@@ -1,5 +1,5 @@
 -- How the strings of a region lie in its window.
-use Rattle.std.specs.Prelude.{◌≡◌, ℕ, ◌+◌, ◌-◌, ◌^◌, ◌≤◌, List, [], ◌∷◌, length, take, drop, map}
+use Rattle.std.specs.Prelude.{◌≡◌, ℕ, ◌+◌, ◌-◌, ◌^◌, ◌≤◌, List, [], ◌∷◌, length, take, drop, map, Option, Some, None, slice_get}
 use Rattle.kp_region.specs.declared.region.Span.{Span}
 use Rattle.kp_region.specs.Stretch.{Stretch, end_of}
 use Rattle.kp_region.specs.Marked.{Marked}
@@ -16,6 +16,15 @@ shown window spans first spare_records spare_bytes = record { first = first; str
 abbrev pub IsRun : ℕ → List Span → ℕ → Type 0
 IsRun start [] end = start ≡ end
 IsRun start (span ∷ spans) end = (span.start ≡ start) × IsRun (start + span.len) spans end
+
+-- where a span begins, or where there is none, the place end
+abbrev pub start_or : ℕ → Option Span → ℕ
+start_or end None = end
+start_or end (Some span) = span.start
+
+-- where the span of this place in the list begins, or where there is none, where the window ends
+abbrev pub begin_of : Stretch → List Span → ℕ → ℕ
+begin_of window spans index = start_or (end_of window) (slice_get spans index)
 
 -- what holds of the parts of a region
 pub record HoldsTogether (window : Stretch) (spans : List Span) (first spare_records spare_bytes span_room : ℕ) : Type 0 where

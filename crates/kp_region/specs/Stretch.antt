@@ -1,5 +1,5 @@
 -- What is seen of a window on a stream of bytes.
-use Rattle.std.specs.Prelude.{ℕ, ◌+◌, List, length, refl}
+use Rattle.std.specs.Prelude.{ℕ, ◌+◌, List, length}
 
 -- the bytes from the place start on, and for how many more there is room
 pub record Stretch : Type 0 where

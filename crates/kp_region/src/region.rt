@@ -2,7 +2,8 @@
 
 ghost use Rattle.std.specs.Prelude.{◌≡◌, ℕ, [], ◌+◌, ◌^◌, ◌<◌, ◌≤◌, ◌↔◌, length, max, option_map, slice_get, IsTrue, IsOk, OnOk, OnErr};
 ghost use Rattle.std.specs.List.{flat_map};
-ghost use Rattle.kp_region.specs.Marked.{no_strings, next_mark, string_at, with_string, without_first, without_last};
+ghost use Rattle.kp_region.specs.Marked.{no_strings, next_mark, string_at, run_at, with_string, without_first, without_last};
+ghost use Rattle.kp_region.specs.Spans.{begin_of};
 
 use crate::NoMemory;
 use crate::window::Window;
@@ -193,6 +194,24 @@ impl Region {
         }
     }
 
+    /// Lends so many adjacent strings in one piece, one behind the other, of which the one of the mark is the first.
+    /// None exactly where one of these marks isn't in the list. A run of none is lent at each mark from the first to the
+    /// one that the next string gets.
+    pub fn run(&self, mark: u64, count: usize) -> Option<&[u8]>
+        ensures { option_map (λ s. s.now) result ≡ run_at self.now mark count }
+    {
+        if mark < self.first {
+            return None;
+        }
+        let from = (mark - self.first) as usize;
+        if from > self.spans.len() || count > self.spans.len() - from {
+            return None;
+        }
+        let start = begin_of(&self.spans, &self.window, from);
+        let end = begin_of(&self.spans, &self.window, from + count);
+        Some(self.window.slice(start, (end - start) as usize))
+    }
+
     /// All strings, one behind the other, with the memory in which they lie. Takes none, and moves no byte unless
     /// strings left at the front.
     pub fn into_bytes(self) -> Vec<u8>
@@ -207,4 +226,14 @@ fn span_at(spans: &VecDeque<Span>, index: usize) -> Option<Span>
     ensures { result ≡ slice_get spans.now.items index }
 {
     spans.get(index).copied()
+}
+
+// Where the string of this index begins, or where there is none, the end of the window.
+fn begin_of(spans: &VecDeque<Span>, window: &Window, index: usize) -> u64
+    ensures { result ≡ begin_of window.now spans.now.items index }
+{
+    match span_at(spans, index) {
+        None => window.end(),
+        Some(span) => span.start,
+    }
 }

@@ -1,8 +1,9 @@
 //! Lists of entries, held as their bytes.
 
-ghost use Rattle.std.specs.Prelude.{◌≡◌, ◌^◌, ◌<◌, ◌≤◌, ◌==◌, [], ◌∷◌, ◌++◌, length, slice_get, option_map, Some, IfOk, IfSome, OnOk, OnErr};
+ghost use Rattle.std.specs.Prelude.{◌≡◌, ◌^◌, ◌<◌, ◌≤◌, ◌==◌, [], ◌∷◌, ◌++◌, length, map, slice_get, option_map, Some, IfOk, IfSome, OnOk, OnErr};
 ghost use Rattle.kp_entry.specs.Entries.{entries};
-ghost use Rattle.kp_entry.specs.Spellings.{entry_of, IsEntryBytes};
+ghost use Rattle.kp_entry.specs.Pieces.{pieces, AreOf};
+ghost use Rattle.kp_entry.specs.Spellings.{entry_of, IsEntryBytes, AreEntries};
 
 use crate::entry::decode;
 use crate::pieces::Pieces;
@@ -45,6 +46,19 @@ impl Entries {
         Entries {
             alloc,
             pieces: Pieces::new(alloc),
+        }
+    }
+
+    /// The entries that these bytes spell, one behind the other, of which each ends at the place in the bytes that `ends`
+    /// says. Takes no memory.
+    pub fn joined(alloc: Global, bytes: Vec<u8>, ends: Vec<usize>) -> Entries
+        requires ended { AreOf bytes.items ends.items (pieces 0 bytes.items ends.items) }
+        requires spelled { AreEntries (pieces 0 bytes.items ends.items) }
+        ensures { result ≡ map entry_of (pieces 0 bytes.items ends.items) }
+    {
+        Entries {
+            alloc,
+            pieces: Pieces::joined(bytes, ends),
         }
     }
 

@@ -3,7 +3,7 @@
 ghost use Rattle.std.specs.Prelude.{◌≡◌, ◌+◌, ◌-◌, ◌^◌, ◌<◌, ◌≤◌, [], ◌∷◌, ◌++◌, length, take, drop, slice_get, option_map, IfOk, OnOk, OnErr};
 ghost use Rattle.std.specs.List.{concat};
 ghost use Rattle.std.specs.Vec.{vec_capacity, vec_len};
-ghost use Rattle.kp_entry.specs.Pieces.{begin_of};
+ghost use Rattle.kp_entry.specs.Pieces.{begin_of, pieces, AreOf};
 
 use kp_model::NoMemory;
 use std::alloc::Global;
@@ -38,6 +38,14 @@ impl Pieces {
             bytes: Vec::new(alloc),
             ends: Vec::new(alloc),
         }
+    }
+
+    /// The strings that these ends cut from these bytes. Takes no memory.
+    pub(crate) fn joined(bytes: Vec<u8>, ends: Vec<usize>) -> Pieces
+        requires { AreOf bytes.items ends.items (pieces 0 bytes.items ends.items) }
+        ensures { result.strings ≡ pieces 0 bytes.items ends.items }
+    {
+        Pieces { bytes, ends }
     }
 
     /// The number of strings.

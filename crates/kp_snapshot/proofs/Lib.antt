@@ -1,0 +1,4 @@
+pub mod RowLaws
+pub mod Ordered
+pub mod ImageLaws
+pub mod Spelled

@@ -1,0 +1,5 @@
+use Rattle.kp_snapshot.proofs.ImageLaws.{images_lawful}
+use Rattle.kp_snapshot.proofs.promises.laws.Goals as goal
+
+pub returns : goal.returns
+returns c = record { image = images_lawful }

@@ -1,0 +1,114 @@
+// A sink with what it has yet to take.
+ghost use Rattle.std.specs.Prelude.{◌≡◌, [], Bool, false};
+ghost use Rattle.kp_outlet.specs.Outlets.{HandsOut, IsOutlet, Keeps, Settles, has_rest, kept};
+
+use crate::ready_sink::ReadySink;
+use std::alloc::Global;
+
+/// The most bytes that are kept.
+const MOST: usize = 4_194_304;
+
+/// A sink, and the bytes that it has yet to take: those of `rest` from `from` on. Once it is over nothing more goes out: the sink
+/// failed, more than 4,194,304 bytes would have been kept, or there was no memory for them.
+#[derive(Drop)]
+pub struct Outlet<W> {
+    sink: W,
+    rest: Vec<u8>,
+    from: usize,
+    over: bool,
+}
+
+impl<W: ReadySink> Outlet<W> {
+    /// An outlet before a sink, which keeps nothing.
+    pub fn new(alloc: Global, sink: W) -> Outlet<W>
+        ensures outlet { IsOutlet result }
+        ensures sink { result.sink ≡ sink }
+        ensures kept { kept result ≡ [] }
+        ensures over { result.over ≡ false }
+    {
+        Outlet {
+            sink,
+            rest: Vec::new(alloc),
+            from: 0,
+            over: false,
+        }
+    }
+
+    /// Whether nothing goes out any more.
+    pub fn is_over(&self) -> bool
+        ensures { result ≡ self.now.over }
+    {
+        self.over
+    }
+
+    /// Whether there are bytes that the sink has yet to take.
+    pub fn has_rest(&self) -> bool
+        requires { IsOutlet self.now }
+        ensures { result ≡ has_rest self.now }
+    {
+        self.from < self.rest.len()
+    }
+
+    /// Hands bytes out. What the sink can't take now is kept, or it is over.
+    pub fn hand(&mut self, bytes: &[u8])
+        requires { IsOutlet self.old }
+        ensures outlet { IsOutlet self.new }
+        ensures hands { HandsOut W.held self.old self.new bytes.now }
+    {
+        if self.over {
+            return;
+        }
+        if self.from < self.rest.len() {
+            keep(self, bytes);
+            return;
+        }
+        match self.sink.offer(bytes) {
+            Ok(count) => keep(self, &bytes[count..]),
+            Err(_) => self.over = true,
+        }
+    }
+
+    /// Offers the sink what is kept.
+    pub fn push_on(&mut self)
+        requires { IsOutlet self.old }
+        ensures outlet { IsOutlet self.new }
+        ensures hands { HandsOut W.held self.old self.new [] }
+    {
+        if self.over {
+            return;
+        }
+        match self.sink.offer(&self.rest[self.from..]) {
+            Ok(count) => {
+                self.from += count;
+                settle(self);
+            }
+            Err(_) => self.over = true,
+        }
+    }
+}
+
+// Keeps bytes behind the others, or is over where they are too many or memory runs out.
+fn keep<W: ReadySink>(outlet: &mut Outlet<W>, bytes: &[u8])
+    requires { IsOutlet outlet.old }
+    ensures outlet { IsOutlet outlet.new }
+    ensures keeps { Keeps outlet.old outlet.new bytes.now }
+{
+    let kept = outlet.rest.len() - outlet.from;
+    if bytes.len() > MOST - kept {
+        outlet.over = true;
+    } else if outlet.rest.extend_from_slice(bytes).is_err() {
+        outlet.over = true;
+    }
+}
+
+// Lets the room of bytes go that were all taken.
+fn settle<W: ReadySink>(outlet: &mut Outlet<W>)
+    requires { IsOutlet outlet.old }
+    ensures outlet { IsOutlet outlet.new }
+    ensures settles { Settles outlet.old outlet.new }
+{
+    if outlet.from == outlet.rest.len() {
+        outlet.rest.clear();
+        outlet.from = 0;
+    }
+}

@@ -1,5 +1,5 @@
 -- What goes out of an outlet, and what is kept before it (this project's own).
-use Rattle.std.specs.Prelude.{◌≡◌, ◌≤◌, ℕ, Bool, true, false, nat_lt, List, [], ◌++◌, length, drop, Option}
+use Rattle.std.specs.Prelude.{◌≡◌, ◌≤◌, ℕ, Bool, true, false, nat_lt, List, ◌++◌, length, drop, Option}
 use Rattle.std.specs.Io.KnownBytes.{Appends}
 use Rattle.kp_outlet.specs.declared.outlet.Outlet.{Outlet}
 
@@ -12,9 +12,14 @@ module _ {W : Type 0} where
   has_rest o = nat_lt o.from (length o.rest.items)
 
   -- no more bytes are kept than the bound
-  pub record IsOutlet (o : Outlet W) : Type 0 where
+  pub record IsWithin (o : Outlet W) : Type 0 where
     pub inside : o.from ≤ length o.rest.items
     pub few : length (kept o) ≤ 4194304
+
+  -- and those before them, which were taken, are no more than those: so all are at most twice the bound
+  pub record IsOutlet (o : Outlet W) : Type 0 where
+    pub within : IsWithin o
+    pub tidy : o.from ≤ length (kept o)
 
   -- a beginning of what was kept and of these bytes went out; and where the outlet isn't over, the rest is kept
   pub record GoesOut (held : W → Option (List ℕ)) (o p : Outlet W) (bytes : List ℕ) : Type 0 where

@@ -1,6 +1,6 @@
 // A sink with what it has yet to take.
-ghost use Rattle.std.specs.Prelude.{◌≡◌, [], Bool, false};
-ghost use Rattle.kp_outlet.specs.Outlets.{HandsOut, IsOutlet, Keeps, Settles, has_rest, kept};
+ghost use Rattle.std.specs.Prelude.{◌≡◌, ◌<◌, ◌≤◌, ◌+◌, [], Bool, false, length, drop};
+ghost use Rattle.kp_outlet.specs.Outlets.{HandsOut, IsOutlet, IsWithin, Keeps, Settles, has_rest, kept};
 
 use crate::ready_sink::ReadySink;
 use std::alloc::Global;
@@ -101,14 +101,28 @@ fn keep<W: ReadySink>(outlet: &mut Outlet<W>, bytes: &[u8])
     }
 }
 
-// Lets the room of bytes go that were all taken.
+// Takes the bytes away that were taken, where they are more than those that are kept: so each byte is moved once at most
+// for each that the sink took, and the memory stays within twice the bound.
 fn settle<W: ReadySink>(outlet: &mut Outlet<W>)
-    requires { IsOutlet outlet.old }
+    requires { IsWithin outlet.old }
     ensures outlet { IsOutlet outlet.new }
     ensures settles { Settles outlet.old outlet.new }
 {
-    if outlet.from == outlet.rest.len() {
-        outlet.rest.clear();
+    let kept = outlet.rest.len() - outlet.from;
+    if kept < outlet.from {
+        take_away(&mut outlet.rest, outlet.from);
         outlet.from = 0;
     }
+}
+
+// Takes away the first `gone` bytes, which are more than the others. The others move to the front.
+fn take_away(bytes: &mut Vec<u8>, gone: usize)
+    requires most { length bytes.old.items < gone + gone }
+    requires inside { gone ≤ length bytes.old.items }
+    ensures { bytes.new.items ≡ drop gone bytes.old.items }
+{
+    let left = bytes.len() - gone;
+    let (front, back) = bytes.split_at_mut(gone);
+    front[..left].copy_from_slice(back);
+    bytes.truncate(left);
 }

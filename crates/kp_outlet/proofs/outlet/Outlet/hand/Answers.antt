@@ -1,4 +1,4 @@
-use Rattle.std.proofs.Common.{◌≡◌, sym, subst, false, rules}
+use Rattle.std.proofs.Common.{sym, subst, rules}
 use Rattle.kp_outlet.specs.declared.outlet.Outlet.{Outlet}
 use Rattle.kp_outlet.specs.Outlets.{HandsWhere, Keeps}
 use Rattle.kp_outlet.proofs.Handing.{hand_first, none_left, tail_whole}

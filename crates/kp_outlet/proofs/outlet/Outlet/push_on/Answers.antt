@@ -1,4 +1,4 @@
-use Rattle.std.proofs.Common.{◌≡◌, ◌+◌, [], sym, subst, ◌∙◌, false, take, drop, drop-drop, ap}
+use Rattle.std.proofs.Common.{◌+◌, [], sym, subst, ◌∙◌, take, drop, drop-drop, ap}
 use Rattle.std.specs.Io.KnownBytes as known
 use Rattle.kp_outlet.specs.declared.outlet.Outlet.{Outlet}
 use Rattle.kp_outlet.specs.Outlets.{HandsWhere}

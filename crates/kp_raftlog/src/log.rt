@@ -1,11 +1,13 @@
 //! The log of a member.
 
 ghost use Rattle.std.specs.Prelude.{◌≡◌, ◌+◌, ◌-◌, ◌^◌, ◌<◌, ◌≤◌, [], ◌∷◌, ◌++◌, length, map, drop, take, option_map, IfOk, IfSome, IsOk, OnOk, OnErr};
+ghost use Rattle.std.specs.List.{AllByRecursion};
 ghost use Rattle.kp_entry.specs.Entries.{entries};
 ghost use Rattle.kp_entry.specs.Heads.{part_of};
 ghost use Rattle.kp_entry.specs.Log.{based_at, batch, behind, last_index, term_at, entry_at, with_entries, truncated, compacted};
+ghost use Rattle.kp_raftlog.specs.Kept.{joined};
 
-use crate::batch::{batch_extent, copy_behind};
+use crate::batch::batch_ends;
 use crate::strings::{pop_before, pop_behind, push_all, total_len};
 use kp_entry::{Entries, encode, spelled_term};
 use kp_model::{Entry, NoMemory};
@@ -104,20 +106,33 @@ impl RaftLog {
         }
     }
 
-    /// Copies of the entries behind the one of index `after` that one message takes: at most 64, and none once the bytes of
-    /// those before it have reached 1,048,576.
+    /// A copy of the entries behind the one of index `after` that one message takes: at most 64, and none once the bytes of
+    /// those before it have reached 1,048,576. They are adjacent in the log and are copied in one piece.
     pub fn batch(&self, after: u64) -> Result<Entries, NoMemory>
         requires { self.now.base ≤ after }
         ensures { IfOk result (λ es. es ≡ batch 64 1048576 (behind self.now after)) }
     {
-        let extent = batch_extent(self, after);
-        let mut out = Entries::new(self.alloc);
-        match copy_behind(self, after, extent, &mut out) {
-            Ok(()) => Ok(out),
-            Err(none) => {
-                drop(out);
-                Err(none)
-            }
+        let mut ends = Vec::new(self.alloc);
+        batch_ends(self, after, &mut ends)?;
+        let count = ends.as_slice().len();
+        let bytes = Vec::from_slice(self.alloc, self.bytes_behind(after, count))?;
+        Ok(Entries::joined(self.alloc, bytes, ends))
+    }
+
+    // The bytes of so many entries behind the one of index `after`, in one piece.
+    fn bytes_behind(&self, after: u64, count: usize) -> &[u8]
+        requires from { self.now.base ≤ after }
+        requires within { count ≤ length (behind self.now after) }
+        ensures bytes { result.now ≡ joined (take count (behind self.now after)) }
+        ensures fits { AllByRecursion entries.Fits (take count (behind self.now after)) }
+    {
+        if count == 0 {
+            return &[];
+        }
+        let mark = after - self.base + self.region.first();
+        match self.region.run(mark, count) {
+            None => &[],
+            Some(bytes) => bytes,
         }
     }
 

@@ -1,8 +1,5 @@
-use Rattle.std.proofs.Common.{◌+◌, ◌-◌, ◌≡◌, ◌≤◌, ◌<◌, arith, length, slice_get, List, ℕ, ap}
+use Rattle.std.proofs.Common.{◌-◌, ◌≡◌, ◌≤◌, ◌<◌, arith, length, slice_get, List, ℕ, ap}
 use Rattle.kp_region.specs.Marked.{Marked}
-use Rattle.kp_entry.specs.Entries.{entries}
-use Rattle.kp_entry.specs.Heads.{part_of}
-use Rattle.kp_raftlog.specs.Kept.{total}
 use Rattle.kp_raftlog.proofs.Parts.{some_is, total_next, total_within, fits_next, spelled_next}
 use Rattle.kp_raftlog.proofs.strings.push_all.Goals as goal
 

@@ -1,6 +1,4 @@
-use Rattle.std.proofs.Common.{◌+◌, ◌≡◌, ◌≤◌, ◌<◌, arith, length, slice_get, List, ℕ, ap}
-use Rattle.kp_entry.specs.Heads.{part_of}
-use Rattle.kp_raftlog.specs.Kept.{total}
+use Rattle.std.proofs.Common.{◌≤◌, ◌<◌, arith, length, slice_get, List, ℕ, ap}
 use Rattle.kp_raftlog.proofs.Parts.{some_is, total_next}
 use Rattle.kp_raftlog.proofs.strings.total_len.Goals as goal
 

@@ -25,8 +25,8 @@ use Rattle.kp_act.specs.declared.plan.Found.{Found}
 use Rattle.kp_act.specs.declared.plan.Effect.TheVariants as effect
 use Rattle.kp_act.specs.Effects.{OwnerIs, MayCreate, IsChildPath, IsFound, IsOwnerFound, IsAct, effected, answered_act, made_act, gone_act, set_act, set_acl_act, with_child_shown, without_child_shown, with_data_shown, with_acl_shown}
 use Rattle.kp_act.specs.Looks.{HavePlaces}
-use Rattle.kp_act.proofs.Paths.{path_total}
-use Rattle.kp_act.proofs.Kids.{IsRooted, count-over, count_path-made}
+use Rattle.kp_cells.proofs.Paths.{path_total}
+use Rattle.kp_cells.proofs.Kids.{IsRooted, count-over, count_path-made}
 use Rattle.kp_act.proofs.Owners.{owner_in, get-owners}
 use Rattle.kp_act.proofs.Outcomes.{stat-count, parts-made, parts-gone, parts-set, parts-relisted}
 use Rattle.kp_act.proofs.Seen.{meta_none, meta_some, creation_misnamed, creation_unlisted, creation_listed, list_misnamed, list_refused, list_taken}

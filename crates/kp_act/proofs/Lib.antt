@@ -1,5 +1,3 @@
-pub mod Paths
-pub mod Kids
 pub mod Owners
 pub mod Outcomes
 pub mod Seen

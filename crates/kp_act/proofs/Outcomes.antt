@@ -11,8 +11,8 @@ use Rattle.kp_cells.specs.Parts.{parts_of}
 use Rattle.kp_cells.proofs.Maps.{picked, mapped-insert, mapped-remove, mapped-over, chosen-insert, chosen-over, chosen-remove}
 use Rattle.kp_act.specs.Effects.{effected, owned_by, disowned}
 use Rattle.kp_act.specs.declared.plan.Effect.TheVariants as effect
-use Rattle.kp_act.proofs.Paths.{path_total, path_same, own_parent_apart}
-use Rattle.kp_act.proofs.Kids.{IsRooted, count-over, count_up-made, count_path-made, count_else-made, count_up-gone, count_else-gone}
+use Rattle.kp_cells.proofs.Paths.{path_total, path_same, own_parent_apart}
+use Rattle.kp_cells.proofs.Kids.{IsRooted, count-over, count_up-made, count_path-made, count_else-made, count_up-gone, count_else-gone}
 use Rattle.kp_act.proofs.Owners.{owner_in, owners_of, get-owners, owners-over, owners-insert, owners-remove, remove-absent}
 
 -- what is shown of a node depends on the number of its children alone

@@ -9,7 +9,7 @@ use Rattle.kp_model.specs.declared.node.Node.{Node}
 use Rattle.kp_model.specs.State.{Nodes, path_cmp}
 use Rattle.kp_cells.specs.Mapped.{mapped, kept}
 use Rattle.kp_cells.proofs.Maps.{tied, passing, get-mapped, get-kept}
-use Rattle.kp_act.proofs.Paths.{path_total, path_same}
+use Rattle.kp_cells.proofs.Paths.{path_total, path_same}
 
 -- the owner of what is at a path, if it has one
 abbrev pub owner_in : Option Node → Option ℕ

@@ -1,6 +1,7 @@
 //! What a command on one node does.
 
 ghost use Rattle.std.specs.Prelude.{◌≡◌, [], ◌∷◌, ◌-◌, Some, min, length, unwrap_or, IfOk, IsTrue};
+ghost use Rattle.kp_model.specs.Limits.{last_count};
 ghost use Rattle.std.specs.FinMap as map;
 ghost use Rattle.kp_model.specs.Fixed.{fixed};
 ghost use Rattle.kp_model.specs.Grammar.{is_length, fits_cmd, fits_op};
@@ -178,8 +179,8 @@ fn remove<L: Look>(
 // only where more than can be shown may be left.
 fn kids_left<L: Look>(alloc: Global, look: &L, path: &str, kids: u32) -> Result<u32, NoMemory>
     requires child { IsChildPath path.now }
-    requires shown { kids ≡ min (length (children (L.nodes look.now) (parent path.now))) 2147483647 }
-    ensures { IfOk result (λ left. left ≡ min (length (children (L.nodes look.now) (parent path.now)) - 1) 2147483647) }
+    requires shown { kids ≡ min (length (children (L.nodes look.now) (parent path.now))) last_count }
+    ensures { IfOk result (λ left. left ≡ min (length (children (L.nodes look.now) (parent path.now)) - 1) last_count) }
 {
     if kids < LAST_COUNT {
         return Ok(kids.saturating_sub(1));

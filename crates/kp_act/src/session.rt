@@ -1,6 +1,7 @@
 //! What is done with sessions: openings, takings over, and ids that are shown.
 
 ghost use Rattle.std.specs.Prelude.{◌≡◌, ◌+◌, ◌||◌, ◌<◌, ℕ, List, nat_le, Some, IfOk, OnOk};
+ghost use Rattle.kp_model.specs.Limits.{last_number};
 ghost use Rattle.std.specs.List.{list_any};
 ghost use Rattle.std.specs.Str.{bytes_eq};
 ghost use Rattle.std.specs.FinMap as map;
@@ -56,14 +57,14 @@ pub fn open<V: View>(
 
 // Whether no session is opened: the origin holds one, or no number is left.
 fn is_late<V: View>(view: &V, origin: &Origin) -> bool
-    ensures { result ≡ (is_held (V.state view.now).sessions origin.now || nat_le 4611686018427387904 (V.state view.now).next) }
+    ensures { result ≡ (is_held (V.state view.now).sessions origin.now || nat_le last_number (V.state view.now).next) }
 {
     view.holds(origin) || view.next_session() >= LAST_NUMBER
 }
 
 // A session is opened under this number.
 fn opening(alloc: Global, id: u64, timeout: u32, passwd: [u8; 16], origin: Origin) -> Plan
-    requires { id < 4611686018427387904 }
+    requires { id < last_number }
     ensures { result ≡ opening_plan id (new_session timeout passwd origin) }
 {
     Plan {
@@ -149,14 +150,14 @@ fn join<V: View>(
 
 // Whether no session is taken over: the origin holds one, or no epoch is left.
 fn is_stale<V: View>(view: &V, session: &Session, origin: &Origin) -> bool
-    ensures { result ≡ (is_held (V.state view.now).sessions origin.now || nat_le 4611686018427387904 session.now.epoch) }
+    ensures { result ≡ (is_held (V.state view.now).sessions origin.now || nat_le last_number session.now.epoch) }
 {
     view.holds(origin) || session.epoch >= LAST_NUMBER
 }
 
 // This origin takes the session over.
 fn taken(alloc: Global, id: u64, session: &Session, origin: Origin) -> Result<Plan, NoMemory>
-    requires { session.now.epoch < 4611686018427387904 }
+    requires { session.now.epoch < last_number }
     ensures { IfOk result (λ p. p ≡ session_plan id (taken_over origin session.now) (reply.Epoch (session.now.epoch + 1))) }
 {
     let mut session = session.copy(alloc)?;

@@ -12,7 +12,8 @@ use Rattle.kp_model.specs.declared.node.Meta.{Meta}
 use Rattle.kp_model.specs.declared.node.Acl.{Acl}
 use Rattle.kp_model.specs.declared.session.Session.{Session}
 use Rattle.kp_model.specs.State.{path_cmp}
-use Rattle.kp_cells.specs.Listed.{Test, Lists, side_of, takes, passes, AreAmong}
+use Rattle.kp_layers.specs.Listed.{Lists}
+use Rattle.kp_cells.specs.Listed.{Test, side_of, takes, passes, AreAmong}
 use Rattle.kp_cells.specs.Parts.{Parts, FitTogether}
 use Rattle.kp_cells.specs.Sides.{parts_at}
 use Rattle.kp_cells.specs.Held.{overlays}
@@ -24,7 +25,8 @@ use Rattle.kp_cells.proofs.Walked.{taken_there, among_keys}
 use Rattle.kp_cells.specs.Naming.{Naming, IsNaming, IsNamed, layers_by_path}
 use Rattle.kp_cells.proofs.ByPath.{at_latest, get-by_path}
 use Rattle.kp_cells.proofs.Listed.{listed}
-use Rattle.kp_cells.proofs.Shown.{path_total, path_same, owner_shown}
+use Rattle.kp_cells.proofs.Paths.{path_total, path_same}
+use Rattle.kp_cells.proofs.Shown.{owner_shown}
 
 module _ {V : Type 0} (names : Naming) (h : IsNaming names) (l : Layering nat_cmp V) (named : IsNamed names l) where
   at_side : (latest : Bool) (q : List ℕ) → option_and_then (get (side_of latest l)) (get names.numbers q) ≡ get (side_of latest (layers_by_path names l)) q

@@ -3,6 +3,9 @@ pub mod Named
 pub mod ByPath
 pub mod Together
 pub mod Listed
+pub mod Paths
+pub mod Kids
+pub mod Whole
 pub mod Shown
 pub mod Walked
 pub mod Holders
@@ -14,5 +17,8 @@ pub mod Released
 pub mod Traces
 pub mod Sets
 pub mod Kept
+pub mod Staged
 pub mod Root
+pub mod Settled
+pub mod Poured
 pub mod Counts

@@ -19,7 +19,7 @@ use Rattle.kp_cells.specs.Mapped.{mapped, kept, chosen}
 use Rattle.kp_cells.specs.Parts.{parts_of, whole, FitTogether}
 use Rattle.kp_cells.specs.Overlays.{Overlays, root_parts, next_in, latest_parts, latest_state, settled, all_begun}
 use Rattle.kp_cells.proofs.Maps.{tied, passing, picked, get-mapped, get-kept, chosen-none}
-use Rattle.kp_cells.proofs.Shown.{path_total, path_same}
+use Rattle.kp_cells.proofs.Paths.{path_total, path_same}
 
 -- the root alone
 abbrev alone : Nodes

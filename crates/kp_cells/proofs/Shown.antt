@@ -3,28 +3,20 @@ use Rattle.std.proofs.Common.{◌≡◌, ℕ, Bool, true, false, cond, List, [],
 use Rattle.std.specs.Prelude.{map, not, unwrap_or, ◌==◌}
 use Rattle.std.specs.List.{filter}
 use Rattle.std.specs.Option.{option_map, option_map_or}
-use Rattle.std.specs.Cmp.{IsTotalOrder}
-use Rattle.std.specs.Cmp.Lexicographic.{nat_list_cmp_total}
 use Rattle.std.specs.FinMap as fin
-use Rattle.std.specs.FinMap.{slice_cmp-IsAntisymmetric, nat_cmp-IsAntisymmetric}
 use Rattle.kp_model.specs.declared.node.Node.{Node}
 use Rattle.kp_model.specs.declared.node.Meta.{Meta}
 use Rattle.kp_model.specs.Path.{name}
 use Rattle.kp_model.specs.Poured.{node_of}
 use Rattle.kp_model.specs.State.{path_cmp, stat, meta_at, bytes_at, acl_at, is_child, children, kids, owned, is_owned}
-use Rattle.kp_layers.specs.Layering.{latest_of}
-use Rattle.kp_cells.specs.Overlays.{Overlays, latest_parts, committed_parts, latest_state, committed_state}
+use Rattle.kp_cells.specs.Overlays.{Overlays, latest_parts, committed_parts, committed_state}
 use Rattle.kp_cells.specs.Mapped.{kept}
 use Rattle.kp_cells.specs.Parts.{Parts, parts_of, whole, FitTogether}
-use Rattle.kp_cells.specs.Listed.{Test, passes}
+use Rattle.kp_cells.specs.Listed.{Test, side_of, passes}
+use Rattle.kp_cells.specs.Sides.{parts_at, state_at}
 use Rattle.kp_cells.proofs.Listed.{same_filter, filter-all}
 use Rattle.kp_cells.proofs.Maps.{picked, passing, get-mapped, get-kept}
-
-pub path_total : IsTotalOrder path_cmp
-path_total = nat_list_cmp_total
-
-pub path_same : fin.IsAntisymmetric path_cmp
-path_same = slice_cmp-IsAntisymmetric nat_cmp-IsAntisymmetric
+use Rattle.kp_cells.proofs.Paths.{path_total, path_same}
 
 module _ (k : ℕ) (p : Parts) (q : List ℕ) (h : FitTogether p) where
   pub meta_shown : fin.get p.metas q ≡ meta_at (whole k p).nodes q
@@ -38,26 +30,6 @@ module _ (k : ℕ) (p : Parts) (q : List ℕ) (h : FitTogether p) where
   pub acl_shown : fin.get p.acls q ≡ acl_at (whole k p).nodes q
   unfolding parts_of whole acl_at
   acl_shown = ap (λ z. fin.get z.acls q) h ∙ get-mapped path_total path_same (λ _ (n : Node). n.acl) (whole 0 p).nodes q
-
-module _ (o : Overlays) (q : List ℕ) (h : FitTogether (latest_parts o)) where
-  pub latest_meta_shown : fin.get (latest_of o.metas) q ≡ meta_at (latest_state o).nodes q
-  latest_meta_shown = meta_shown _ (latest_parts o) q h
-
-  pub latest_content_shown : fin.get (latest_of o.contents) q ≡ bytes_at (latest_state o).nodes q
-  latest_content_shown = content_shown _ (latest_parts o) q h
-
-  pub latest_acl_shown : fin.get (latest_of o.acls) q ≡ acl_at (latest_state o).nodes q
-  latest_acl_shown = acl_shown _ (latest_parts o) q h
-
-module _ (o : Overlays) (q : List ℕ) (h : FitTogether (committed_parts o)) where
-  pub committed_meta_shown : fin.get o.metas.base q ≡ meta_at (committed_state o).nodes q
-  committed_meta_shown = meta_shown _ (committed_parts o) q h
-
-  pub committed_content_shown : fin.get o.contents.base q ≡ bytes_at (committed_state o).nodes q
-  committed_content_shown = content_shown _ (committed_parts o) q h
-
-  pub committed_acl_shown : fin.get o.acls.base q ≡ acl_at (committed_state o).nodes q
-  committed_acl_shown = acl_shown _ (committed_parts o) q h
 
 -- the node that the parts make of what is shown of it
 abbrev node_at : Parts → List ℕ → Meta → Node
@@ -100,22 +72,40 @@ owner_shown p q m h e some =
     ∙ ap (option_map (λ (n : Node). n.owner)) (get-kept path_total path_same (λ _ (n : Node). not (n.owner == 0)) (whole 0 p).nodes q ∙ ap (passing (λ (n : Node). not (n.owner == 0))) (get-whole 0 p q ∙ ap (option_map (node_at p q)) e))
     ∙ ap (λ b. option_map (λ (n : Node). n.owner) (cond (not b) (Some (node_at p q m)) None)) some
 
--- in the words of the two views
-module _ (o : Overlays) where
-  pub latest_kids : (path : List ℕ) → map name (filter (passes (λ q _. is_child path q) (latest_of o.metas)) (fin.keys (latest_of o.metas))) ≡ kids (latest_state o).nodes path
-  latest_kids path = kids_shown _ (latest_parts o) path
+-- in the words of the views
+pub meta_on : (latest : Bool) (o : Overlays) (q : List ℕ) → FitTogether (parts_at latest o) → fin.get (side_of latest o.metas) q ≡ meta_at (state_at latest o).nodes q
+meta_on true o q h = meta_shown _ (latest_parts o) q h
+meta_on false o q h = meta_shown _ (committed_parts o) q h
 
-  pub latest_owned : (id : ℕ) → filter (passes (λ _ m. m.owner == id) (latest_of o.metas)) (fin.keys (latest_of o.metas)) ≡ owned (latest_state o).nodes id
-  latest_owned id = owned_shown _ (latest_parts o) id
+pub content_on : (latest : Bool) (o : Overlays) (q : List ℕ) → FitTogether (parts_at latest o) → fin.get (side_of latest o.contents) q ≡ bytes_at (state_at latest o).nodes q
+content_on true o q h = content_shown _ (latest_parts o) q h
+content_on false o q h = content_shown _ (committed_parts o) q h
 
-  pub latest_paths : filter (passes (λ _ _. true) (latest_of o.metas)) (fin.keys (latest_of o.metas)) ≡ fin.keys (latest_state o).nodes
-  latest_paths = paths_shown _ (latest_parts o)
+pub acl_on : (latest : Bool) (o : Overlays) (q : List ℕ) → FitTogether (parts_at latest o) → fin.get (side_of latest o.acls) q ≡ acl_at (state_at latest o).nodes q
+acl_on true o q h = acl_shown _ (latest_parts o) q h
+acl_on false o q h = acl_shown _ (committed_parts o) q h
 
-  pub committed_kids : (path : List ℕ) → map name (filter (passes (λ q _. is_child path q) o.metas.base) (fin.keys o.metas.base)) ≡ kids (committed_state o).nodes path
-  committed_kids path = kids_shown _ (committed_parts o) path
+pub sessions_on : (latest : Bool) (o : Overlays) → side_of latest o.sessions ≡ (state_at latest o).sessions
+unfolding whole
+sessions_on true o = refl
+sessions_on false o = refl
 
-  pub committed_owned : (id : ℕ) → filter (passes (λ _ m. m.owner == id) o.metas.base) (fin.keys o.metas.base) ≡ owned (committed_state o).nodes id
-  committed_owned id = owned_shown _ (committed_parts o) id
+pub next_on : (latest : Bool) (o : Overlays) → (parts_at latest o).next ≡ (state_at latest o).next
+unfolding whole
+next_on true o = refl
+next_on false o = refl
 
-  pub committed_paths : filter (passes (λ _ _. true) o.metas.base) (fin.keys o.metas.base) ≡ fin.keys (committed_state o).nodes
-  committed_paths = paths_shown _ (committed_parts o)
+pub kids_on : (latest : Bool) (o : Overlays) (path : List ℕ) → map name (filter (passes (λ q _. is_child path q) (side_of latest o.metas)) (fin.keys (side_of latest o.metas))) ≡ kids (state_at latest o).nodes path
+kids_on true o path = kids_shown _ (latest_parts o) path
+kids_on false o path = kids_shown _ (committed_parts o) path
+
+pub owned_on : (latest : Bool) (o : Overlays) (id : ℕ) → filter (passes (λ _ m. m.owner == id) (side_of latest o.metas)) (fin.keys (side_of latest o.metas)) ≡ owned (state_at latest o).nodes id
+owned_on true o id = owned_shown _ (latest_parts o) id
+owned_on false o id = owned_shown _ (committed_parts o) id
+
+pub paths_on : (latest : Bool) (o : Overlays) → filter (passes (λ _ _. true) (side_of latest o.metas)) (fin.keys (side_of latest o.metas)) ≡ fin.keys (state_at latest o).nodes
+paths_on true o = paths_shown _ (latest_parts o)
+paths_on false o = paths_shown _ (committed_parts o)
+
+pub children_on : (o : Overlays) (path : List ℕ) → filter (passes (λ q _. is_child path q) o.metas.base) (fin.keys o.metas.base) ≡ children (committed_state o).nodes path
+children_on o path = children_shown _ (committed_parts o) path

@@ -1,6 +1,8 @@
 pub mod Mapped
 pub mod Parts
 pub mod Overlays
+pub mod Staging
+pub mod Pouring
 pub mod Naming
 pub mod Kin
 pub mod Held

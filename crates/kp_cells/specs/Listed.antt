@@ -1,10 +1,8 @@
--- Which paths a listing takes, and lists of keys in their order.
+-- Which paths a listing takes.
 use Rattle.std.specs.Prelude.{◌≡◌, ℕ, Bool, true, false, cond, List, Option, Some, None}
-use Rattle.std.specs.List.{list_any}
-use Rattle.std.specs.List.Sorted.{IsStrictlySortedBy}
 use Rattle.std.specs.Option.{option_map_or, option_and_then}
 use Rattle.std.specs.Str.{bytes_eq}
-use Rattle.std.specs.Ordering.{nat_cmp, eq_by_cmp}
+use Rattle.std.specs.Ordering.{nat_cmp}
 use Rattle.std.specs.declared.cmp.Ordering.{Ordering}
 use Rattle.std.specs.FinMap as fin
 use Rattle.std.specs.FinMap.{FinMap}
@@ -49,8 +47,3 @@ passes f metas q = option_map_or (f q) (fin.get metas q) false
 -- whether q is the path that may be there
 abbrev pub is_the : List ℕ → Option (List ℕ) → Bool
 is_the q r = option_map_or (bytes_eq q) r false
-
--- the keys stand in their order, and are those that pass the test
-pub record Lists {K : Type 0} (R : K → K → Ordering) (f : K → Bool) (keys : List K) : Type 0 where
-  pub sorted : IsStrictlySortedBy R keys
-  pub members : (q : K) → list_any (eq_by_cmp R q) keys ≡ f q

@@ -11,7 +11,7 @@ use Rattle.kp_model.specs.declared.session.Session.{Session}
 use Rattle.kp_model.specs.State.{State, path_cmp, meta_of, blank_node, open_acl}
 use Rattle.kp_model.specs.Path.{root}
 use Rattle.kp_cells.specs.declared.cells.CellsMark.{CellsMark}
-use Rattle.kp_cells.specs.Parts.{Parts, whole}
+use Rattle.kp_cells.specs.Parts.{Parts, parts_of, whole}
 
 -- the layers of each part, by path or by session, and the index of the last entry that was made part of the bases
 pub record Overlays : Type 0 where
@@ -157,6 +157,14 @@ settled_part m = record { base = m; layers = []; staged = None }
 -- the parts of a state with no layers on them
 abbrev pub settled : ℕ → Parts → Overlays
 settled applied p = record { metas = settled_part p.metas; contents = settled_part p.contents; acls = settled_part p.acls; children = settled_part p.children; owners = settled_part p.owners; sessions = settled_part p.sessions; next = settled_part (map.insert map.empty 0 p.next); applied = applied }
+
+-- the parts are those of the committed state, with no layer on them
+abbrev pub IsSettled : Overlays → Type 0
+IsSettled o = o ≡ settled o.applied (parts_of (committed_state o))
+
+-- the open layer made on the base behind the first sealed one, while the applied index stays
+abbrev pub taken_in : Overlays → Overlays
+taken_in o = record (all_committed (all_sealed o)) { applied = o.applied }
 
 -- no nodes, no sessions and no layers
 abbrev pub blank_overlays : Overlays

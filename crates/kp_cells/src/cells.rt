@@ -5,8 +5,8 @@ ghost use Rattle.std.specs.Option.{option_map_or};
 ghost use Rattle.std.specs.Str.{bytes_eq};
 ghost use Rattle.kp_layers.specs.Layering.{latest_of, written};
 ghost use Rattle.kp_model.specs.Path.{is_well_formed, root};
-ghost use Rattle.kp_cells.specs.Overlays.{IsOpen, IsClosed, depth, all_begun, all_sealed, all_abandoned, all_undone, marks_of, all_committed, all_dropped, with_meta, with_content, with_acl, with_child, with_owned, with_owner, with_session, with_next, settled, root_parts, blank_overlays};
-ghost use Rattle.kp_model.specs.State.{meta_of, blank_node, open_acl};
+ghost use Rattle.kp_cells.specs.Overlays.{IsOpen, IsClosed, depth, all_begun, all_sealed, all_abandoned, all_undone, marks_of, all_committed, all_dropped, with_meta, with_content, with_acl, with_child, with_owned, with_owner, with_session, with_next, IsSettled, committed_state, settled, root_parts, blank_overlays};
+ghost use Rattle.kp_model.specs.State.{meta_of, blank_node, open_acl, empty};
 
 use crate::groups::ByHolder;
 use crate::names::Names;
@@ -27,13 +27,14 @@ use std::marker::Model;
 /// path takes room only while it has a value in the committed state or a write in a layer.
 #[derive(Drop)]
 pub struct Cells {
-    alloc: Global,
+    pub(crate) alloc: Global,
     pub(crate) names: Names,
     // the numbers of the paths that each layer wrote
     pub(crate) trail: Trail,
     pub(crate) nodes: Nodes,
     pub(crate) sessions: GroupedLayers<Session, ByHolder>,
     pub(crate) next: Layers<u64>,
+    // the index of the last entry that is made part of the committed state
     pub(crate) applied: u64,
 }
 
@@ -98,9 +99,13 @@ fn blank_meta() -> Meta
 }
 
 impl Cells {
-    /// The root alone, and no session. Later growth takes memory from `alloc`.
+    /// The root alone, and no session: the empty state, into which another may be poured. Later growth takes
+    /// memory from `alloc`.
+    #[tactic(auto, using(crate::proofs::Settled::root_settled, crate::proofs::Settled::root_empty))]
     pub fn new(alloc: Global) -> Result<Cells, NoMemory>
-        ensures { IfOk result (λ cells. cells ≡ settled 0 root_parts) }
+        ensures value { IfOk result (λ cells. cells ≡ settled 0 root_parts) }
+        ensures may { IfOk result IsSettled }
+        ensures empty { IfOk result (λ cells. committed_state cells ≡ empty) }
     {
         let mut cells = Cells::blank(alloc);
         match cells.settle(alloc) {
@@ -119,9 +124,7 @@ impl Cells {
     {
         self.begin()?;
         self.stage_root(alloc)?;
-        self.seal();
-        let _ = self.commit_front();
-        self.applied = 0;
+        self.take_in();
         Ok(())
     }
 

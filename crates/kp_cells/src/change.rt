@@ -2,7 +2,7 @@
 
 ghost use Rattle.std.specs.Prelude.{◌≡◌, IfOk};
 
-use kp_model::{Acls, Bytes, Duplicate, Items, Meta, NoMemory, Session, Text};
+use kp_model::{Acl, Acls, Bytes, Duplicate, Items, Meta, NoMemory, Session, Text};
 use std::alloc::Global;
 
 /// Changes in the order in which they are set.
@@ -25,6 +25,17 @@ pub enum Change {
     Session(u64, Option<Session>),
     /// The number that the next session gets.
     NextSession(u64),
+}
+
+/// An access list with memory of its own, equal to a lent one.
+pub fn copied_acl(alloc: Global, from: &[Acl]) -> Result<Acls, NoMemory>
+    ensures { IfOk result (λ acl. acl ≡ from.now) }
+{
+    let mut acl = Acls::new(alloc);
+    for line in from {
+        acl.push(line.copy(alloc)?)?;
+    }
+    Ok(acl)
 }
 
 impl NodeValue {

@@ -12,10 +12,11 @@ mod names;
 mod nodes;
 mod pair;
 mod pick;
+mod pour;
 mod staging;
 mod trail;
 mod view;
 
 pub use cells::{Cells, CellsMark};
-pub use change::{Change, Changes, NodeValue};
-pub use view::{CommittedView, LatestView};
+pub use change::{Change, Changes, NodeValue, copied_acl};
+pub use view::{CommittedView, LatestView, SideView};

@@ -7,7 +7,8 @@ ghost use Rattle.std.specs.List.{filter, list_any};
 ghost use Rattle.kp_model.specs.Path as paths;
 ghost use Rattle.kp_model.specs.State.{path_cmp};
 ghost use Rattle.kp_cells.specs.Naming.{IsNaming};
-ghost use Rattle.kp_cells.specs.Listed.{side_of, taken as taken_of, takes, is_the, Lists, AreAmong};
+ghost use Rattle.kp_cells.specs.Listed.{side_of, taken as taken_of, takes, is_the, AreAmong};
+ghost use Rattle.kp_layers.specs.Listed.{Lists};
 ghost use Rattle.kp_layers.specs.Grouped.{is_in};
 
 use crate::names::Names;

@@ -3,16 +3,34 @@ ghost use Rattle.std.specs.Prelude.{◌≡◌, ◌==◌, false, None, OnOk, OnEr
 ghost use Rattle.std.specs.FinMap as map;
 ghost use Rattle.std.specs.Option.{option_map_or};
 ghost use Rattle.std.specs.Str.{bytes_eq};
-ghost use Rattle.kp_layers.specs.Layering.{latest_of, written};
+ghost use Rattle.kp_layers.specs.Layering.{latest_of};
 ghost use Rattle.kp_model.specs.Path.{is_well_formed, root};
 ghost use Rattle.kp_cells.specs.Overlays.{IsOpen, with_meta, with_content, with_acl, with_child, with_owned, with_owner, with_session, with_next};
+ghost use Rattle.kp_cells.specs.Staging.{with_part};
 
 use crate::cells::Cells;
 use crate::looks::latest_at;
-use crate::nodes::release_one;
+use crate::nodes::{Part, release_one};
 use kp_model::{Acls, Bytes, Meta, NoMemory, Session};
 
 impl Cells {
+    // Adds the write of a part to the open layer. After an error nothing has changed, here and in the other
+    // staging calls.
+    pub(crate) fn stage_part(&mut self, path: &str, part: Part) -> Result<(), NoMemory>
+        requires open { IsOpen self.old }
+        ensures ok { OnOk result (self.new ≡ with_part self.old path.now part) }
+        ensures err { OnErr result (self.new ≡ self.old) }
+    {
+        self.trail.make_room()?;
+        let number = self.names.give(path)?;
+        if self.nodes.stage(number, part).is_err() {
+            release_one(&mut self.names, &self.nodes, number);
+            return Err(NoMemory);
+        }
+        self.trail.push(number);
+        Ok(())
+    }
+
     /// Sets what is shown of the node at the path, or with None takes it away. After an error
     /// nothing has changed, here and in the other staging calls.
     pub fn stage_meta(&mut self, path: &str, meta: Option<Meta>) -> Result<(), NoMemory>
@@ -21,14 +39,7 @@ impl Cells {
         ensures ok { OnOk result (self.new ≡ with_meta self.old path.now meta) }
         ensures err { OnErr result (self.new ≡ self.old) }
     {
-        self.trail.make_room()?;
-        let number = self.names.give(path)?;
-        if self.nodes.metas.stage(number, meta).is_err() {
-            release_one(&mut self.names, &self.nodes, number);
-            return Err(NoMemory);
-        }
-        self.trail.push(number);
-        Ok(())
+        self.stage_part(path, Part::Meta(meta))
     }
 
     /// Sets the data of the node at the path, or with None takes it away.
@@ -38,14 +49,7 @@ impl Cells {
         ensures ok { OnOk result (self.new ≡ with_content self.old path.now content) }
         ensures err { OnErr result (self.new ≡ self.old) }
     {
-        self.trail.make_room()?;
-        let number = self.names.give(path)?;
-        if self.nodes.contents.stage(number, content).is_err() {
-            release_one(&mut self.names, &self.nodes, number);
-            return Err(NoMemory);
-        }
-        self.trail.push(number);
-        Ok(())
+        self.stage_part(path, Part::Content(content))
     }
 
     /// Sets the access list of the node at the path, or with None takes it away.
@@ -55,30 +59,7 @@ impl Cells {
         ensures ok { OnOk result (self.new ≡ with_acl self.old path.now acl) }
         ensures err { OnErr result (self.new ≡ self.old) }
     {
-        self.trail.make_room()?;
-        let number = self.names.give(path)?;
-        if self.nodes.acls.stage(number, acl).is_err() {
-            release_one(&mut self.names, &self.nodes, number);
-            return Err(NoMemory);
-        }
-        self.trail.push(number);
-        Ok(())
-    }
-
-    // Sets what stands for the path among its parent's children.
-    fn set_child(&mut self, path: &str, value: Option<()>) -> Result<(), NoMemory>
-        requires open { IsOpen self.old }
-        ensures ok { OnOk result (self.new ≡ record self.old { children = written self.old.children path.now value }) }
-        ensures err { OnErr result (self.new ≡ self.old) }
-    {
-        self.trail.make_room()?;
-        let number = self.names.give(path)?;
-        if self.nodes.children.stage(number, value).is_err() {
-            release_one(&mut self.names, &self.nodes, number);
-            return Err(NoMemory);
-        }
-        self.trail.push(number);
-        Ok(())
+        self.stage_part(path, Part::Acl(acl))
     }
 
     /// Sets whether the path is among its parent's children.
@@ -90,26 +71,10 @@ impl Cells {
         ensures err { OnErr result (self.new ≡ self.old) }
     {
         if there {
-            self.set_child(path, Some(()))
+            self.stage_part(path, Part::Child(Some(())))
         } else {
-            self.set_child(path, None)
+            self.stage_part(path, Part::Child(None))
         }
-    }
-
-    // Sets the session that owns the path.
-    fn stage_owner(&mut self, path: &str, owner: Option<u64>) -> Result<(), NoMemory>
-        requires open { IsOpen self.old }
-        ensures ok { OnOk result (self.new ≡ with_owner self.old path.now owner) }
-        ensures err { OnErr result (self.new ≡ self.old) }
-    {
-        self.trail.make_room()?;
-        let number = self.names.give(path)?;
-        if self.nodes.owners.stage(number, owner).is_err() {
-            release_one(&mut self.names, &self.nodes, number);
-            return Err(NoMemory);
-        }
-        self.trail.push(number);
-        Ok(())
     }
 
     // Whether the session owns the path under all layers.
@@ -132,9 +97,9 @@ impl Cells {
         ensures err { OnErr result (self.new ≡ self.old) }
     {
         if there {
-            self.stage_owner(path, Some(session))
+            self.stage_part(path, Part::Owner(Some(session)))
         } else if self.is_owner(path, session) {
-            self.stage_owner(path, None)
+            self.stage_part(path, Part::Owner(None))
         } else {
             Ok(())
         }

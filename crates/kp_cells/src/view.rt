@@ -1,5 +1,5 @@
 //! The two views of the tree and its sessions.
-ghost use Rattle.std.specs.Prelude.{◌≡◌, ◌==◌, false, IfOk};
+ghost use Rattle.std.specs.Prelude.{◌≡◌, ◌==◌, false, IfOk, option_copied};
 ghost use Rattle.std.specs.FinMap as map;
 ghost use Rattle.std.specs.List.{filter};
 ghost use Rattle.kp_model.specs.State.{is_child, is_held};
@@ -22,7 +22,10 @@ impl Cells {
         requires fits { FitTogether (latest_parts self.now) }
         ensures { result ≡ latest_state self.now }
     {
-        LatestView { cells: self }
+        SideView {
+            cells: self,
+            latest: true,
+        }
     }
 
     /// The state below all layers.
@@ -30,7 +33,65 @@ impl Cells {
         requires fits { FitTogether (committed_parts self.now) }
         ensures { result ≡ committed_state self.now }
     {
-        CommittedView { cells: self }
+        SideView {
+            cells: self,
+            latest: false,
+        }
+    }
+
+    // What is shown of the node at the path, on either side.
+    fn meta_at(&self, latest: bool, path: &str) -> Option<&Meta>
+        ensures { option_copied result ≡ map.get (side_of latest self.now.metas) path.now }
+    {
+        if latest {
+            self.latest_meta(path)
+        } else {
+            self.committed_meta(path)
+        }
+    }
+
+    // The data of the node at the path, on either side.
+    fn content_at(&self, latest: bool, path: &str) -> Option<&[u8]>
+        ensures { option_copied result ≡ map.get (side_of latest self.now.contents) path.now }
+    {
+        if latest {
+            self.latest_content(path)
+        } else {
+            self.committed_content(path)
+        }
+    }
+
+    // The access list of the node at the path, on either side.
+    fn acl_at(&self, latest: bool, path: &str) -> Option<&[Acl]>
+        ensures { option_copied result ≡ map.get (side_of latest self.now.acls) path.now }
+    {
+        if latest {
+            self.latest_acl(path)
+        } else {
+            self.committed_acl(path)
+        }
+    }
+
+    // The session of the number, on either side.
+    fn session_at(&self, latest: bool, id: u64) -> Option<&Session>
+        ensures { option_copied result ≡ map.get (side_of latest self.now.sessions) id }
+    {
+        if latest {
+            self.latest_session(id)
+        } else {
+            self.committed_session(id)
+        }
+    }
+
+    // The next session number, on either side.
+    fn next_at(&self, latest: bool) -> u64
+        ensures { result ≡ (parts_at latest self.now).next }
+    {
+        if latest {
+            self.latest_next()
+        } else {
+            self.committed_next()
+        }
     }
 
     // The paths of the nodes that are picked, ascending. Costs as much as there are nodes.
@@ -117,162 +178,90 @@ impl Cells {
     }
 }
 
-/// The state under all layers, the open one last.
+/// The state under all layers, the open one last, or the one below them.
 ///
 /// The look-ups that lend take no memory, and so does `holds`. `kids` costs the children of the path
 /// and `owned` the nodes of the session, in either view and in the layers; `holds` at most the
 /// sessions of the holder; `sessions` and `paths` the sessions and the paths in use, and so does
 /// `owned` of no session.
 #[derive(Drop)]
-pub struct LatestView<'a> {
+pub struct SideView<'a> {
     cells: &'a Cells,
+    // whether the layers count
+    latest: bool,
 }
 
-impl<'a> Model for LatestView<'a> {
-    ghost use Rattle.kp_model.specs.State.{State};
-    ghost use Rattle.kp_model.specs.Codes.{state_code};
-    ghost use Rattle.kp_cells.specs.Parts.{FitTogether};
-    ghost use Rattle.kp_cells.specs.Overlays.{latest_parts, latest_state};
-
-    ghost Value = { State };
-
-    ghost coded = { state_code };
-
-    ghost view = { λ v. latest_state v.cells.now };
-
-    ghost invariant = { λ v. FitTogether (latest_parts v.cells.now) };
-}
-
-impl View for LatestView<'_> {
-    ghost state = { λ v. v };
-
-    #[tactic(auto, using(crate::proofs::Shown::latest_meta_shown))]
-    fn meta(&self, path: &str) -> Option<&Meta> {
-        self.cells.latest_meta(path)
-    }
-
-    #[tactic(auto, using(crate::proofs::Shown::latest_content_shown))]
-    fn content(&self, path: &str) -> Option<&[u8]> {
-        self.cells.latest_content(path)
-    }
-
-    #[tactic(auto, using(crate::proofs::Shown::latest_acl_shown))]
-    fn acl(&self, path: &str) -> Option<&[Acl]> {
-        self.cells.latest_acl(path)
-    }
-
-    #[tactic(auto, unfolding(crate::specs::Parts::whole))]
-    fn session(&self, id: u64) -> Option<&Session> {
-        self.cells.latest_session(id)
-    }
-
-    #[tactic(auto, unfolding(crate::specs::Parts::whole))]
-    fn holds(&self, origin: &Origin) -> bool {
-        self.cells.holds(true, origin)
-    }
-
-    #[tactic(auto, unfolding(crate::specs::Parts::whole))]
-    fn next_session(&self) -> u64 {
-        self.cells.latest_next()
-    }
-
-    #[tactic(auto, using(crate::proofs::Shown::latest_kids))]
-    fn kids(&self, alloc: Global, path: &str) -> Result<Paths, NoMemory> {
-        names_of(alloc, &self.cells.children(alloc, true, path)?)
-    }
-
-    #[tactic(auto, using(crate::proofs::Shown::latest_owned))]
-    fn owned(&self, alloc: Global, session: u64) -> Result<Paths, NoMemory> {
-        self.cells.owned(alloc, true, session)
-    }
-
-    #[tactic(auto, unfolding(crate::specs::Parts::whole))]
-    fn sessions(&self, alloc: Global) -> Result<Vec<u64>, NoMemory> {
-        self.cells.session_ids(alloc, true)
-    }
-
-    #[tactic(auto, using(crate::proofs::Shown::latest_paths))]
-    fn paths(&self, alloc: Global) -> Result<Paths, NoMemory> {
-        self.cells.picked(alloc, true, &Every {})
-    }
-}
+/// The state under all layers, the open one last.
+pub type LatestView<'a> = SideView<'a>;
 
 /// The state below all layers.
-///
-/// The look-ups that lend take no memory, and so does `holds`. `kids` costs the children of the path
-/// and `owned` the nodes of the session, in either view and in the layers; `holds` at most the
-/// sessions of the holder; `sessions` and `paths` the sessions and the paths in use, and so does
-/// `owned` of no session.
-#[derive(Drop)]
-pub struct CommittedView<'a> {
-    cells: &'a Cells,
-}
+pub type CommittedView<'a> = SideView<'a>;
 
-impl<'a> Model for CommittedView<'a> {
+impl<'a> Model for SideView<'a> {
     ghost use Rattle.kp_model.specs.State.{State};
     ghost use Rattle.kp_model.specs.Codes.{state_code};
     ghost use Rattle.kp_cells.specs.Parts.{FitTogether};
-    ghost use Rattle.kp_cells.specs.Overlays.{committed_parts, committed_state};
+    ghost use Rattle.kp_cells.specs.Sides.{parts_at, state_at};
 
     ghost Value = { State };
 
     ghost coded = { state_code };
 
-    ghost view = { λ v. committed_state v.cells.now };
+    ghost view = { λ v. state_at v.latest v.cells.now };
 
-    ghost invariant = { λ v. FitTogether (committed_parts v.cells.now) };
+    ghost invariant = { λ v. FitTogether (parts_at v.latest v.cells.now) };
 }
 
-impl View for CommittedView<'_> {
+impl View for SideView<'_> {
     ghost state = { λ v. v };
 
-    #[tactic(auto, using(crate::proofs::Shown::committed_meta_shown))]
+    #[tactic(auto, using(crate::proofs::Shown::meta_on))]
     fn meta(&self, path: &str) -> Option<&Meta> {
-        self.cells.committed_meta(path)
+        self.cells.meta_at(self.latest, path)
     }
 
-    #[tactic(auto, using(crate::proofs::Shown::committed_content_shown))]
+    #[tactic(auto, using(crate::proofs::Shown::content_on))]
     fn content(&self, path: &str) -> Option<&[u8]> {
-        self.cells.committed_content(path)
+        self.cells.content_at(self.latest, path)
     }
 
-    #[tactic(auto, using(crate::proofs::Shown::committed_acl_shown))]
+    #[tactic(auto, using(crate::proofs::Shown::acl_on))]
     fn acl(&self, path: &str) -> Option<&[Acl]> {
-        self.cells.committed_acl(path)
+        self.cells.acl_at(self.latest, path)
     }
 
-    #[tactic(auto, unfolding(crate::specs::Parts::whole))]
+    #[tactic(auto, using(crate::proofs::Shown::sessions_on))]
     fn session(&self, id: u64) -> Option<&Session> {
-        self.cells.committed_session(id)
+        self.cells.session_at(self.latest, id)
     }
 
-    #[tactic(auto, unfolding(crate::specs::Parts::whole))]
+    #[tactic(auto, using(crate::proofs::Shown::sessions_on))]
     fn holds(&self, origin: &Origin) -> bool {
-        self.cells.holds(false, origin)
+        self.cells.holds(self.latest, origin)
     }
 
-    #[tactic(auto, unfolding(crate::specs::Parts::whole))]
+    #[tactic(auto, using(crate::proofs::Shown::next_on))]
     fn next_session(&self) -> u64 {
-        self.cells.committed_next()
+        self.cells.next_at(self.latest)
     }
 
-    #[tactic(auto, using(crate::proofs::Shown::committed_kids))]
+    #[tactic(auto, using(crate::proofs::Shown::kids_on))]
     fn kids(&self, alloc: Global, path: &str) -> Result<Paths, NoMemory> {
-        names_of(alloc, &self.cells.children(alloc, false, path)?)
+        names_of(alloc, &self.cells.children(alloc, self.latest, path)?)
     }
 
-    #[tactic(auto, using(crate::proofs::Shown::committed_owned))]
+    #[tactic(auto, using(crate::proofs::Shown::owned_on))]
     fn owned(&self, alloc: Global, session: u64) -> Result<Paths, NoMemory> {
-        self.cells.owned(alloc, false, session)
+        self.cells.owned(alloc, self.latest, session)
     }
 
-    #[tactic(auto, unfolding(crate::specs::Parts::whole))]
+    #[tactic(auto, using(crate::proofs::Shown::sessions_on))]
     fn sessions(&self, alloc: Global) -> Result<Vec<u64>, NoMemory> {
-        self.cells.session_ids(alloc, false)
+        self.cells.session_ids(alloc, self.latest)
     }
 
-    #[tactic(auto, using(crate::proofs::Shown::committed_paths))]
+    #[tactic(auto, using(crate::proofs::Shown::paths_on))]
     fn paths(&self, alloc: Global) -> Result<Paths, NoMemory> {
-        self.cells.picked(alloc, false, &Every {})
+        self.cells.picked(alloc, self.latest, &Every {})
     }
 }

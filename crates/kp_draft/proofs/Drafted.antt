@@ -20,10 +20,10 @@ use Rattle.kp_draft.specs.Drafts.{IsKnown, IsSame, Tells, IsDraft, known_at, rem
 use Rattle.kp_act.specs.Effects.{IsChildPath, effected_nodes, without_child_shown}
 use Rattle.kp_act.specs.Several.{effected_nodes_by}
 use Rattle.kp_act.proofs.Acts.{shown_kids}
-use Rattle.kp_act.proofs.Kids.{count_up-gone, count_else-gone}
+use Rattle.kp_cells.proofs.Kids.{count_up-gone, count_else-gone}
 use Rattle.kp_draft.proofs.Leaves.{shrunk_is, get-shrunk}
 use Rattle.kp_act.proofs.Outcomes.{stat-count}
-use Rattle.kp_act.proofs.Paths.{path_total, path_same, own_parent_apart}
+use Rattle.kp_cells.proofs.Paths.{path_total, path_same, own_parent_apart}
 use Rattle.kp_draft.proofs.Removals.{left_shown, removal_nodes}
 use Rattle.kp_act.proofs.Seen.{meta_there, meta_none, meta_absent}
 

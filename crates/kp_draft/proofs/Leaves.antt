@@ -1,16 +1,11 @@
 -- The nodes that a session owns, while they go one after the other.
-use Rattle.std.proofs.Common.{◌≡◌, ℕ, ◌≤◌, Bool, true, false, cond, ◌&&◌, List, [], ◌∷◌, Option, Some, None, IsSome, refl, ap, sym, ◌∙◌, arith}
-use Rattle.std.specs.Prelude.{◌==◌, map, T}
+use Rattle.std.proofs.Common.{◌≡◌, ℕ, ◌≤◌, Bool, true, false, cond, List, [], ◌∷◌, Option, Some, None, IsSome, refl, ap, sym, ◌∙◌, arith}
+use Rattle.std.specs.Prelude.{◌==◌}
 use Rattle.std.specs.List.{AllByRecursion, IsDistinct, filter}
-use Rattle.std.specs.List.Sorted.{IsStrictlySortedBy}
 use Rattle.std.specs.Option.{option_map_or}
-use Rattle.std.specs.Ordering.{eq_by_cmp, is_eq, is_lt}
+use Rattle.std.specs.Ordering.{eq_by_cmp, is_eq}
 use Rattle.std.specs.Str.{bytes_eq}
-use Rattle.std.specs.declared.cmp.Ordering.{Ordering}
-use Rattle.std.specs.declared.cmp.Ordering.TheVariants.{Less, Equal, Greater}
 use Rattle.std.specs.FinMap as fin
-use Rattle.std.specs.FinMap.{is_sorted}
-use Rattle.std.specs.FinMap.Entries.{below_all}
 use Rattle.std.proofs.lemmas.Bool.Decides.{Decides-eqb}
 use Rattle.std.proofs.lemmas.Cmp.{tied_itself}
 use Rattle.std.proofs.lemmas.List.Kept.{IsStrictlySortedBy-filter}
@@ -22,10 +17,11 @@ use Rattle.kp_model.specs.Good.{IsGood}
 use Rattle.kp_model.specs.Path.{root, parent}
 use Rattle.kp_model.specs.State.{State, Nodes, is_owned, owned, path_cmp}
 use Rattle.kp_model.specs.Step.{changed, shrunk, without_child}
+use Rattle.kp_layers.proofs.Listed.{sorted_keys}
 use Rattle.kp_cells.proofs.Maps.{no, tied}
 use Rattle.kp_draft.specs.Closing.{IsLeaf, AreLeaves}
 use Rattle.kp_act.proofs.Acts.{formed}
-use Rattle.kp_act.proofs.Paths.{path_total, path_same}
+use Rattle.kp_cells.proofs.Paths.{path_total, path_same}
 
 -- what is at one path has one owner
 one_owner : (o : Option Node) (a b : Node) → o ≡ Some a → o ≡ Some b → a.owner ≡ b.owner
@@ -96,29 +92,6 @@ module _ (i id : ℕ) (live : (id == 0) ≡ false) where
 pub leaves_left : (i : ℕ) (nodes : Nodes) (id : ℕ) (p : List ℕ) (ps : List (List ℕ)) → AreLeaves nodes id (p ∷ ps) → AreLeaves (shrunk nodes i p) id ps
 unfolding IsDistinct
 leaves_left i nodes id p ps h = record { live = h.live; leaves = leaves_stay i id h.live nodes p ps h.leaves.0 h.apart.0 h.leaves.1; apart = h.apart.1 }
-
-first : (a b : Bool) → T (a && b) → T a
-first true b h = tt
-first false b h = h
-
-second : (a b : Bool) → T (a && b) → T b
-second true b h = h
-second false b h = absurd h
-
-less : (r : Ordering) → T (is_lt r) → r ≡ Less
-less Less h = refl
-less Equal h = absurd h
-less Greater h = absurd h
-
-module _ {K : Type 0} (R : K → K → Ordering) where
-  below_keys : {X : Type 0} (k : K) (es : List (K × X)) → T (below_all R k es) → AllByRecursion (λ y. R k y ≡ Less) (map (λ e. e.0) es)
-  below_keys k [] h = tt
-  below_keys k (e ∷ es) h = (less _ (first _ _ h), below_keys k es (second _ _ h))
-
-  sorted_keys : {X : Type 0} (es : List (K × X)) → T (is_sorted R es) → IsStrictlySortedBy R (map (λ e. e.0) es)
-  unfolding IsStrictlySortedBy
-  sorted_keys [] h = tt
-  sorted_keys (e ∷ es) h = (below_keys e.0 es (first _ _ h), sorted_keys es (second _ _ h))
 
 -- where each key that passes has it
 one_more : {K : Type 0} (P : K → Type 0) (k : K) (ks : List K) (b : Bool) → (b ≡ true → P k) → AllByRecursion P ks → AllByRecursion P (cond b (k ∷ ks) ks)

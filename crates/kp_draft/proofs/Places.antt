@@ -17,7 +17,7 @@ use Rattle.kp_model.specs.Good.{IsPersistent, HasPlace, HasParent}
 use Rattle.kp_model.proofs.Maps.{Finds, same_value, no_value, get_inserted, each_inserted, each_removed, finds_inserted, finds_removed}
 use Rattle.kp_model.proofs.GoodParts.{HasNoChild, no_child}
 use Rattle.kp_act.specs.Looks.{HavePlaces}
-use Rattle.kp_act.proofs.Paths.{path_total, path_same}
+use Rattle.kp_cells.proofs.Paths.{path_total, path_same}
 
 -- ---- a node is set, or taken away
 

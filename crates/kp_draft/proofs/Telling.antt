@@ -25,8 +25,8 @@ use Rattle.kp_draft.specs.Drafts as drafts
 use Rattle.kp_act.specs.Effects.{IsFamily, IsFit, IsOn, Suits, IsAct, effected, effected_nodes}
 use Rattle.kp_act.specs.Several.{effected_nodes_by}
 use Rattle.kp_draft.proofs.Drafted.{effected-push, draft_told, still, kept_some, kept_none}
-use Rattle.kp_act.proofs.Kids.{count-over, count_up-made, count_else-made, count_up-gone, count_else-gone}
-use Rattle.kp_act.proofs.Paths.{path_total, path_same, own_parent_apart}
+use Rattle.kp_cells.proofs.Kids.{count-over, count_up-made, count_else-made, count_up-gone, count_else-gone}
+use Rattle.kp_cells.proofs.Paths.{path_total, path_same, own_parent_apart}
 
 -- the two tests of paths
 same_test : (p q : List ℕ) → eq_by_cmp path_cmp q p ≡ bytes_eq p q

@@ -1,6 +1,7 @@
 //! The nodes behind some effects, known without a tree of their own.
 
 ghost use Rattle.std.specs.Prelude.{◌≡◌, ◌-◌, ◌++◌, [], ◌∷◌, List, ℕ, Some, None, cond, min, string_bytes, IfOk, IsSome, OnOk};
+ghost use Rattle.kp_model.specs.Limits.{last_count};
 ghost use Rattle.std.specs.Str.{bytes_eq};
 ghost use Rattle.std.specs.FinMap as map;
 ghost use Rattle.kp_model.specs.Path.{parent};
@@ -161,8 +162,8 @@ fn take_out(
     siblings: u64,
     kids: u64,
 ) -> Result<(), NoMemory>
-    ensures effects { OnOk result (draft.new.effects ≡ draft.old.effects ++ effect.Remove path.now (without_child_shown index (min (siblings - 1) 2147483647) meta) owner ∷ []) }
-    ensures kept { OnOk result ((p : List ℕ) → known_at draft.new.kept.entries p ≡ cond (bytes_eq path.now p) (Some (record { meta = None; kids = kids })) (cond (bytes_eq up.now p) (Some (record { meta = Some (without_child_shown index (min (siblings - 1) 2147483647) meta); kids = siblings - 1 })) (known_at draft.old.kept.entries p))) }
+    ensures effects { OnOk result (draft.new.effects ≡ draft.old.effects ++ effect.Remove path.now (without_child_shown index (min (siblings - 1) last_count) meta) owner ∷ []) }
+    ensures kept { OnOk result ((p : List ℕ) → known_at draft.new.kept.entries p ≡ cond (bytes_eq path.now p) (Some (record { meta = None; kids = kids })) (cond (bytes_eq up.now p) (Some (record { meta = Some (without_child_shown index (min (siblings - 1) last_count) meta); kids = siblings - 1 })) (known_at draft.old.kept.entries p))) }
 {
     let left = siblings.saturating_sub(1);
     let meta = without_child(index, meta, left.min(LAST_COUNT as u64) as u32);

@@ -1,4 +1,4 @@
--- Lists of keys in their order: two with the same members are the same.
+-- Lists of keys in their order: two with the same members are the same. The crates above take these lemmas from here.
 use Rattle.std.proofs.Common.{◌≡◌, ℕ, Bool, true, false, cond, nat_eq, ◌&&◌, ◌||◌, List, [], ◌∷◌, ◌++◌, append_assoc, append-nil, Option, Some, None, refl, ap, sym, subst, ◌∙◌}
 use Rattle.std.specs.Prelude.{map, T}
 use Rattle.std.specs.List.{filter, list_any, AllByRecursion, IsDistinct}
@@ -20,33 +20,33 @@ use Rattle.kp_layers.specs.Listed.{Lists, at_level}
 use Rattle.kp_layers.specs.Used.{is_known}
 use Rattle.kp_layers.proofs.Used.{has-overlay}
 
-both : (a b : Bool) → T a → T b → T (a && b)
+pub both : (a b : Bool) → T a → T b → T (a && b)
 both true b h g = g
 both false b h g = h
 
-first : (a b : Bool) → T (a && b) → T a
+pub first : (a b : Bool) → T (a && b) → T a
 first true b h = tt
 first false b h = h
 
-second : (a b : Bool) → T (a && b) → T b
+pub second : (a b : Bool) → T (a && b) → T b
 second true b h = h
 second false b h = absurd h
 
-less : (r : Ordering) → T (is_lt r) → r ≡ Less
+pub less : (r : Ordering) → T (is_lt r) → r ≡ Less
 less Less h = refl
 less Equal h = absurd h
 less Greater h = absurd h
 
-no : {A : Type 0} (b : Bool) → b ≡ false → b ≡ true → A
+pub no : {A : Type 0} (b : Bool) → b ≡ false → b ≡ true → A
 no true e h = absurd (subst T e tt)
 no false e h = absurd (subst T (sym h) tt)
 
-equal : (r : Ordering) → is_eq r ≡ true → r ≡ Equal
+pub equal : (r : Ordering) → is_eq r ≡ true → r ≡ Equal
 equal Less h = no false refl h
 equal Equal h = refl
 equal Greater h = no false refl h
 
-and-implied : (a b : Bool) → (a ≡ true → b ≡ true) → a && b ≡ a
+pub and-implied : (a b : Bool) → (a ≡ true → b ≡ true) → a && b ≡ a
 and-implied true b h = h refl
 and-implied false b h = refl
 
@@ -81,13 +81,15 @@ module _ {K : Type 0} (R : K → K → Ordering) where
   below_keys k [] h = tt
   below_keys k (e ∷ es) h = (less _ (first _ _ h), below_keys k es (second _ _ h))
 
-  sorted_keys : {X : Type 0} (es : List (K × X)) → T (is_sorted R es) → IsStrictlySortedBy R (map (λ e. e.0) es)
+  -- the keys of entries in their order
+  pub sorted_keys : {X : Type 0} (es : List (K × X)) → T (is_sorted R es) → IsStrictlySortedBy R (map (λ e. e.0) es)
   unfolding IsStrictlySortedBy
   sorted_keys [] h = tt
   sorted_keys (e ∷ es) h = (below_keys e.0 es (first _ _ h), sorted_keys es (second _ _ h))
 
   module _ (o : IsTotalOrder R) (a : fin.IsAntisymmetric R) where
-    same_lists : (f : K → Bool) (xs ys : List K) → Lists R f xs → Lists R f ys → xs ≡ ys
+    -- two lists in order with the same members are the same
+    pub same_lists : (f : K → Bool) (xs ys : List K) → Lists R f xs → Lists R f ys → xs ≡ ys
     same_lists f xs ys h g =
         sym (keys-marks xs)
         ∙ ap (map (λ e. e.0)) (same_entries R o a (marks xs) (marks ys) (sorted_marks xs h.sorted) (sorted_marks ys g.sorted)
@@ -110,14 +112,18 @@ module _ {K : Type 0} (R : K → K → Ordering) where
       and_false false = refl
     any-filter p q (k ∷ ks) = one_more p q k ks (p k) (eq_by_cmp R q k) refl refl (any-filter p q ks)
 
-    -- the keys of a map that pass a test
+    -- the keys of a map that pass a test, as a list in order
+    pub filter_lists : {X : Type 0} (m : FinMap R X) (p : K → Bool) → Lists R (λ q. p q && fin.contains_key m q) (filter p (fin.keys m))
+    filter_lists m p = record {
+      sorted = IsStrictlySortedBy-filter R p (fin.keys m) (sorted_keys (fin.entries m) (fin.entries_sorted m));
+      members = λ q. any-filter p q (fin.keys m) ∙ ap (λ b. p q && b) (sym (fin.contains_key-keys m q));
+    }
+
+    -- a list of them all
     pub filtered_listed : {X : Type 0} (m : FinMap R X) (p : K → Bool) (ks : List K) → IsStrictlySortedBy R ks → ((q : K) → p q ≡ true → fin.contains_key m q ≡ true) → ((q : K) → p q ≡ true → list_any (eq_by_cmp R q) ks ≡ true) → filter p ks ≡ filter p (fin.keys m)
     filtered_listed m p ks sorted inside listed = same_lists p (filter p ks) (filter p (fin.keys m))
         record { sorted = IsStrictlySortedBy-filter R p ks sorted; members = λ q. any-filter p q ks ∙ and-implied (p q) _ (listed q) }
-        record {
-          sorted = IsStrictlySortedBy-filter R p (fin.keys m) (sorted_keys (fin.entries m) (fin.entries_sorted m));
-          members = λ q. any-filter p q (fin.keys m) ∙ and-implied (p q) _ (λ e. sym (fin.contains_key-keys m q) ∙ inside q e);
-        }
+        record { sorted = (filter_lists m p).sorted; members = λ q. (filter_lists m p).members q ∙ and-implied (p q) _ (inside q) }
 
     -- the keys of a map
     pub keys_listed : {X : Type 0} (m : FinMap R X) (f : K → Bool) (ks : List K) → Lists R f ks → ((q : K) → f q ≡ fin.contains_key m q) → ks ≡ fin.keys m

@@ -5,9 +5,10 @@
 #![tactic(auto)]
 
 mod link;
-mod memory;
 mod view;
 
 pub use link::{Full, LinkSeat, Links};
-pub use memory::NoMemory;
 pub use view::{LinkRule, LinkView};
+
+/// No memory was found: std's own error of an allocation.
+pub type NoMemory = std::alloc::AllocError;

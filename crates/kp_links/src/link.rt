@@ -3,7 +3,7 @@ ghost use Rattle.std.specs.Prelude.{◌≡◌, ◌^◌, ◌≤◌, IfOk, MatchOp
 ghost use Rattle.crossbeam_queue.specs.Fifo.{Held};
 ghost use Rattle.kp_links.specs.LinkView.{Allowing, Sends, Takes, no_mail, with_split};
 
-use crate::memory::NoMemory;
+use crate::NoMemory;
 use crate::view::{LinkRule, LinkView, Send, SplitOff, Take};
 use crossbeam_queue::{Pass, RuledArrayQueue};
 use std::alloc::Global;

@@ -15,8 +15,8 @@ use Rattle.kp_model.specs.Path.{root, parent, last_slash}
 use Rattle.kp_model.specs.State.{Nodes, path_cmp, children, is_child, meta_of, meta_at, stat, seen}
 use Rattle.kp_model.proofs.Maps.{no_value, same_value, each_inserted, each_removed}
 use Rattle.kp_cells.proofs.Maps.{tied}
-use Rattle.kp_act.proofs.Paths.{path_total, path_same}
-use Rattle.kp_act.proofs.Kids.{count-beside, count-without}
+use Rattle.kp_cells.proofs.Paths.{path_total, path_same}
+use Rattle.kp_cells.proofs.Kids.{count-beside, count-without}
 use Rattle.kp_act.proofs.Seen.{meta_some}
 use Rattle.kp_plain.specs.Beside.{NodeList, MetaList, as_map, child_count, with_shown, shown_again, both_again, AreOrdered, AreShown}
 use Rattle.kp_plain.proofs.SortedMap.{get_sorted, count_sorted, stays_sorted, put_sorted, stays_sorted_without, remove_sorted}

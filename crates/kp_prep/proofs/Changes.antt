@@ -31,7 +31,7 @@ use Rattle.kp_act.specs.Effects.{FitsData, effected, renumbered, effected_nodes}
 use Rattle.kp_prep.specs.Ledgers.{nodes_behind}
 use Rattle.kp_act.specs.Plans.{IsPlan, settled, next_after}
 use Rattle.kp_act.specs.Several.{effected_by, effected_nodes_by}
-use Rattle.kp_act.proofs.Paths.{path_total}
+use Rattle.kp_cells.proofs.Paths.{path_total}
 use Rattle.kp_act.proofs.Seen.{absent, present}
 
 -- no list is lent where there is no node

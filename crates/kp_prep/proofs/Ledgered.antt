@@ -16,7 +16,7 @@ use Rattle.kp_cells.proofs.Maps.{no, not_some, tied}
 use Rattle.kp_prep.specs.Changing.{node_set, set_all}
 use Rattle.kp_prep.specs.Ledgers.{nodes_behind, node_from, value_in, IsLast, IsPlaced, place_of, IsLedger}
 use Rattle.kp_prep.proofs.Changes.{set_append}
-use Rattle.kp_act.proofs.Paths.{path_total, path_same}
+use Rattle.kp_cells.proofs.Paths.{path_total, path_same}
 
 -- no node is changed, and no place is kept
 pub ledger_begun : {Z : Type 0} (s : State) (changes cs : List Change) (places : List (String Z × ℕ)) → cs ≡ changes → places ≡ [] → nodes_behind s changes ≡ s.nodes → IsLedger s cs places

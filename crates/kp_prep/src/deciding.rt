@@ -14,8 +14,8 @@ ghost use Rattle.kp_prep.specs.Ledgers.{IsLedger, nodes_behind};
 use crate::entry::plan;
 use crate::ledger::{Ledger, acl, begin, change, content, end};
 use kp_act::{Effect, Effects, Plan, Prepared};
-use kp_cells::{Change, Changes, NodeValue};
-use kp_model::{Acl, Acls, Bytes, Entry, Meta, NoMemory, Session, Text, View};
+use kp_cells::{Change, Changes, NodeValue, copied_acl};
+use kp_model::{Acls, Bytes, Entry, Meta, NoMemory, Session, Text, View};
 use std::alloc::Global;
 
 /// What an entry is answered, and what it changes.
@@ -248,7 +248,7 @@ fn refilled<V: View>(
         None => Ok(None),
         Some(acl) => Ok(Some(NodeValue {
             bytes,
-            acl: copied(alloc, acl)?,
+            acl: copied_acl(alloc, acl)?,
             meta,
         })),
     }
@@ -274,15 +274,4 @@ fn relisted<V: View>(
             meta,
         })),
     }
-}
-
-// An equal access list with memory of its own.
-fn copied(alloc: Global, from: &[Acl]) -> Result<Acls, NoMemory>
-    ensures { IfOk result (λ acl. acl ≡ from.now) }
-{
-    let mut acl = Acls::new(alloc);
-    for line in from {
-        acl.push(line.copy(alloc)?)?;
-    }
-    Ok(acl)
 }

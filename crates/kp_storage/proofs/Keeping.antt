@@ -21,7 +21,7 @@ use Rattle.kp_model.specs.Touched.{touched}
 use Rattle.kp_prep.specs.Touching.{AreWithin, staged_keys}
 use Rattle.kp_storage.proofs.LayerKeys.{touches_none, touches_front, touches_back, touches_more}
 use Rattle.kp_storage.proofs.Replay.{after_append, answers_append, answers_take, length-answers}
-use Rattle.kp_storage.proofs.Whole.{whole_is, fit_together}
+use Rattle.kp_cells.proofs.Whole.{whole_is, fit_together}
 use Rattle.kp_cells.proofs.Root.{parts_empty}
 use Rattle.kp_storage.proofs.Parts.{parts_front, parts_back, front_layered, back_layered, parts_latest, parts_begun, sealed_layered, parts_sealed, parts_last}
 

@@ -1,5 +1,4 @@
 pub mod Replay
-pub mod Whole
 pub mod Parts
 pub mod LayerKeys
 pub mod Keeping

@@ -6,7 +6,7 @@ use Rattle.std.specs.Prelude.{List}
 use Rattle.kp_cells.specs.Parts.{FitTogether}
 use Rattle.kp_cells.specs.Overlays.{Overlays, committed_parts, latest_parts, committed_state}
 use Rattle.kp_storage.specs.Kept.{Keeps}
-use Rattle.kp_storage.proofs.Whole.{fit_together}
+use Rattle.kp_cells.proofs.Whole.{fit_together}
 use Rattle.kp_storage.proofs.Keeping.{committed_parts_are, latest_parts_are}
 
 module _ (o : Overlays) (es : List LogEntry) (answers : List Committed) (h : Keeps o es answers) where

@@ -1,4 +1,5 @@
 ghost use Rattle.std.specs.Prelude.{◌≡◌, ◌<◌, ◌≤◌, ◌&&◌, IfOk, IsTrue};
+ghost use Rattle.kp_model.specs.Limits.{last_number};
 ghost use Rattle.std.specs.FinMap as map;
 ghost use Rattle.kp_model.specs.Grammar.{is_body, has_numbers, is_number};
 ghost use Rattle.kp_model.specs.Store.{last as last_of, latest};
@@ -44,11 +45,11 @@ impl Model for Work {
 /// The epoch of a session and its next number in the uncommitted state, or 0 and 0 where there is no such session.
 #[tactic(auto, using(crate::proofs::Paces::paced_latest))]
 fn numbers_of(store: &Storage, session: u64) -> (u64, u64)
-    requires room { last_of store.now < 4611686018427387904 }
+    requires room { last_of store.now < last_number }
     requires paced { IsPaced store.now.state }
     ensures epoch { result.0 ≡ epoch_of (map.get (latest store.now).sessions session) }
     ensures seq { result.1 ≡ next_seq_of (map.get (latest store.now).sessions session) }
-    ensures small { (result.0 ≤ 4611686018427387904) × (result.1 ≤ 4611686018427387904) }
+    ensures small { (result.0 ≤ last_number) × (result.1 ≤ last_number) }
 {
     match store.latest_session(session) {
         None => (0, 0),
@@ -59,7 +60,7 @@ fn numbers_of(store: &Storage, session: u64) -> (u64, u64)
 /// A write of a session, with its epoch and its next number.
 #[tactic(auto, unfolding(crate::specs::Transcript::write_of))]
 fn write_body(store: &Storage, session: u64, cmd: Cmd) -> Body
-    requires room { last_of store.now < 4611686018427387904 }
+    requires room { last_of store.now < last_number }
     requires paced { IsPaced store.now.state }
     requires session { IsTrue (is_number session) }
     ensures body { result ≡ write_of store.now session cmd }
@@ -77,7 +78,7 @@ fn write_body(store: &Storage, session: u64, cmd: Cmd) -> Body
 /// Adds an entry and answers its text.
 #[tactic(auto, unfolding(crate::specs::Transcript::entered))]
 fn enter(alloc: Global, store: &mut Storage, time: u64, body: Body) -> Result<Vec<u8>, NoMemory>
-    requires room { last_of store.old < 4611686018427387904 }
+    requires room { last_of store.old < last_number }
     requires numbers { IsTrue (has_numbers 0 time body) }
     ensures turn { IfOk result (λ v. record { text = v.items; work = record { store = store.new; time = time } } ≡ entered (record { store = store.old; time = time }) body) }
     ensures state { store.new.state ≡ store.old.state }
@@ -96,7 +97,7 @@ fn write(
     session: u64,
     command: Command,
 ) -> Result<Vec<u8>, NoMemory>
-    requires room { last_of store.old < 4611686018427387904 }
+    requires room { last_of store.old < last_number }
     requires paced { IsPaced store.old.state }
     requires time { IsTrue (is_number time) }
     requires session { IsTrue (is_number session) }
@@ -118,7 +119,7 @@ fn write_raw(
     seq: u64,
     command: Command,
 ) -> Result<Vec<u8>, NoMemory>
-    requires room { last_of store.old < 4611686018427387904 }
+    requires room { last_of store.old < last_number }
     requires time { IsTrue (is_number time) }
     requires numbers { IsTrue (is_number session && (is_number epoch && is_number seq)) }
     ensures turn { IfOk result (λ v. record { text = v.items; work = record { store = store.new; time = time } } ≡ entered (record { store = store.old; time = time }) (body.Write session epoch seq (asks command))) }
@@ -184,8 +185,8 @@ impl Work {
     /// Does the n-th line and answers its text, without a line feed. After an `Err` no further line is taken.
     #[tactic(auto, unfolding(crate::specs::Transcript::turn))]
     pub fn turn(&mut self, n: u64, line: StoreLine) -> Result<Vec<u8>, NoMemory>
-        requires room { last_of self.old.store < 4611686018427387904 }
-        requires number { n ≤ 4611686018427387904 }
+        requires room { last_of self.old.store < last_number }
+        requires number { n ≤ last_number }
         requires line { IsTrue (is_line line) }
         ensures { IfOk result (λ v. record { text = v.items; work = self.new } ≡ turn_of self.old n line) }
     {

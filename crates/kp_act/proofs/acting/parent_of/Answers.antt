@@ -2,7 +2,7 @@ use Rattle.std.proofs.Common.{ap, sym, ◌∙◌}
 use Rattle.std.specs.Option.{option_copied}
 use Rattle.kp_model.specs.Path.{parent}
 use Rattle.kp_act.proofs.Acts.{if_same}
-use Rattle.kp_act.proofs.Paths.{root_above}
+use Rattle.kp_cells.proofs.Paths.{root_above}
 use Rattle.kp_act.proofs.Seen.{is_root}
 use Rattle.kp_act.proofs.acting.parent_of.Goals as goal
 

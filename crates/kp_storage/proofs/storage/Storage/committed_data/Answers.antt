@@ -4,7 +4,7 @@ use Rattle.kp_model.specs.State.{bytes_at}
 use Rattle.kp_model.specs.Store.{Store}
 use Rattle.kp_cells.specs.Parts.{Parts}
 use Rattle.kp_storage.proofs.Keeping.{committed_parts_are}
-use Rattle.kp_storage.proofs.Whole.{get-contents}
+use Rattle.kp_cells.proofs.Whole.{get-contents}
 use Rattle.kp_storage.proofs.storage.Storage.committed_data.Goals as goal
 
 pub returns : goal.returns

@@ -3,7 +3,7 @@ use Rattle.std.specs.FinMap as map
 use Rattle.kp_model.specs.Store.{Store}
 use Rattle.kp_cells.specs.Parts.{Parts}
 use Rattle.kp_storage.proofs.Keeping.{committed_parts_are}
-use Rattle.kp_storage.proofs.Whole.{get-sessions}
+use Rattle.kp_cells.proofs.Whole.{get-sessions}
 use Rattle.kp_storage.proofs.storage.Storage.committed_session.Goals as goal
 
 pub returns : goal.returns

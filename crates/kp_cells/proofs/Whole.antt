@@ -2,26 +2,25 @@
 use Rattle.std.proofs.Common.{◌≡◌, ℕ, Option, Some, None, List, [], refl, sym, ap, ◌∙◌}
 use Rattle.std.specs.Prelude.{unwrap_or}
 use Rattle.std.specs.Option.{option_map}
-use Rattle.std.specs.Cmp.Lexicographic.{nat_list_cmp_total}
 use Rattle.std.specs.FinMap as map
 use Rattle.kp_model.specs.declared.node.Acl.{Acl}
 use Rattle.kp_model.specs.declared.node.Node.{Node}
 use Rattle.kp_model.specs.declared.node.Meta.{Meta}
 use Rattle.kp_model.specs.State.{State, Nodes, path_cmp, stat, meta_at, bytes_at}
 use Rattle.kp_model.specs.Poured.{node_of}
-use Rattle.kp_model.proofs.GoodParts.{path_cmp-IsAntisymmetric}
 use Rattle.kp_cells.specs.Mapped.{mapped}
 use Rattle.kp_cells.specs.Parts.{Parts, parts_of, whole}
 use Rattle.kp_cells.proofs.Maps.{get-mapped}
+use Rattle.kp_cells.proofs.Paths.{path_total, path_same}
 
 -- what is shown of the nodes, part by part
 pub get-metas : (s : State) (p : List ℕ) → map.get (parts_of s).metas p ≡ meta_at s.nodes p
 unfolding parts_of meta_at
-get-metas s p = get-mapped nat_list_cmp_total path_cmp-IsAntisymmetric (stat s.nodes) s.nodes p
+get-metas s p = get-mapped path_total path_same (stat s.nodes) s.nodes p
 
 pub get-contents : (s : State) (p : List ℕ) → map.get (parts_of s).contents p ≡ bytes_at s.nodes p
 unfolding parts_of bytes_at
-get-contents s p = get-mapped nat_list_cmp_total path_cmp-IsAntisymmetric (λ _ n. n.bytes) s.nodes p
+get-contents s p = get-mapped path_total path_same (λ _ n. n.bytes) s.nodes p
 
 pub get-sessions : (s : State) (id : ℕ) → map.get (parts_of s).sessions id ≡ map.get s.sessions id
 unfolding parts_of
@@ -40,11 +39,11 @@ nodes_again nodes =
     let metas : map.FinMap path_cmp Meta = mapped (stat nodes) nodes in
     let contents : map.FinMap path_cmp (List ℕ) = mapped (λ _ (n : Node). n.bytes) nodes in
     let acls : map.FinMap path_cmp (List Acl) = mapped (λ _ (n : Node). n.acl) nodes in
-    map.same_map nat_list_cmp_total path_cmp-IsAntisymmetric _ _ (λ q.
-    get-mapped nat_list_cmp_total path_cmp-IsAntisymmetric (λ q m. node_of (unwrap_or (map.get contents q) []) (unwrap_or (map.get acls q) []) m) metas q
-    ∙ ap (option_map (λ (m : Meta). node_of (unwrap_or (map.get contents q) []) (unwrap_or (map.get acls q) []) m)) (get-mapped nat_list_cmp_total path_cmp-IsAntisymmetric (stat nodes) nodes q)
-    ∙ ap (λ (o : Option (List ℕ)). option_map (λ (m : Meta). node_of (unwrap_or o []) (unwrap_or (map.get acls q) []) m) (option_map (stat nodes q) (map.get nodes q))) (get-mapped nat_list_cmp_total path_cmp-IsAntisymmetric (λ _ (n : Node). n.bytes) nodes q)
-    ∙ ap (λ (o : Option (List Acl)). option_map (λ (m : Meta). node_of (unwrap_or (option_map (λ (n : Node). n.bytes) (map.get nodes q)) []) (unwrap_or o []) m) (option_map (stat nodes q) (map.get nodes q))) (get-mapped nat_list_cmp_total path_cmp-IsAntisymmetric (λ _ (n : Node). n.acl) nodes q)
+    map.same_map path_total path_same _ _ (λ q.
+    get-mapped path_total path_same (λ q m. node_of (unwrap_or (map.get contents q) []) (unwrap_or (map.get acls q) []) m) metas q
+    ∙ ap (option_map (λ (m : Meta). node_of (unwrap_or (map.get contents q) []) (unwrap_or (map.get acls q) []) m)) (get-mapped path_total path_same (stat nodes) nodes q)
+    ∙ ap (λ (o : Option (List ℕ)). option_map (λ (m : Meta). node_of (unwrap_or o []) (unwrap_or (map.get acls q) []) m) (option_map (stat nodes q) (map.get nodes q))) (get-mapped path_total path_same (λ _ (n : Node). n.bytes) nodes q)
+    ∙ ap (λ (o : Option (List Acl)). option_map (λ (m : Meta). node_of (unwrap_or (option_map (λ (n : Node). n.bytes) (map.get nodes q)) []) (unwrap_or o []) m) (option_map (stat nodes q) (map.get nodes q))) (get-mapped path_total path_same (λ _ (n : Node). n.acl) nodes q)
     ∙ again nodes q (map.get nodes q))
 
 pub whole_parts : (s : State) → whole s.applied (parts_of s) ≡ s

@@ -1,5 +1,5 @@
 use Rattle.std.proofs.Common.{◌≡◌, take}
-use Rattle.kp_prep.proofs.deciding.copied.Given as goal
+use Rattle.kp_cells.proofs.change.copied_acl.Given as goal
 
 abbrev pub invariant-loop-line : goal.invariant-loop-line
 invariant-loop-line l = l.acl ≡ take l.line-index l.from

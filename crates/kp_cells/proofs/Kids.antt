@@ -1,84 +1,18 @@
 -- The children of a path as a set, and how many they are after a change.
-use Rattle.std.proofs.Common.{◌≡◌, ℕ, ◌+◌, ◌-◌, Bool, true, false, cond, ◌&&◌, List, [], ◌∷◌, length, Option, Some, None, IsSome, is_some, refl, ap, sym, ◌∙◌}
-use Rattle.std.specs.Prelude.{map, T}
+use Rattle.std.proofs.Common.{◌≡◌, ℕ, ◌+◌, ◌-◌, Bool, true, false, cond, List, length, Option, Some, None, IsSome, is_some, refl, ap, sym, ◌∙◌}
 use Rattle.std.specs.List.{filter}
 use Rattle.std.specs.Str.{bytes_eq}
-use Rattle.std.specs.declared.cmp.Ordering.{Ordering}
 use Rattle.std.specs.Ordering.{eq_by_cmp}
-use Rattle.std.specs.Cmp.{IsTotalOrder}
 use Rattle.std.specs.FinMap as map
-use Rattle.std.specs.FinMap.{FinMap, find, is_sorted}
-use Rattle.std.specs.FinMap.Entries.{below_all}
 use Rattle.std.proofs.lemmas.List.{length-map}
 use Rattle.kp_model.specs.declared.node.Node.{Node}
 use Rattle.kp_model.specs.Path.{root, parent}
 use Rattle.kp_model.specs.State.{Nodes, is_child, children, path_cmp}
 use Rattle.kp_cells.specs.Mapped.{chosen}
 use Rattle.kp_cells.specs.Parts.{PathSet}
-use Rattle.kp_cells.proofs.Maps.{no, tied, picked, get-chosen, chosen-insert, chosen-over, chosen-remove, chosen-past, chosen-none}
-use Rattle.kp_act.proofs.Paths.{path_total, path_same, child_parent, child_not_root, own_child, no_other_child, not_own_parent}
-
-both : (a b : Bool) → T a → T b → T (a && b)
-both true b h g = g
-both false b h g = h
-
-first : (a b : Bool) → T (a && b) → T a
-first true b h = tt
-first false b h = h
-
-second : (a b : Bool) → T (a && b) → T b
-second true b h = h
-second false b h = absurd h
-
--- the entries whose keys pass, each without its value
-abbrev passed : {K X : Type 0} → (K → Bool) → List (K × X) → List (K × Unit {0})
-passed f [] = []
-passed f (e ∷ es) = cond (f e.0) ((e.0, tt {0}) ∷ passed f es) (passed f es)
-
-one_more : {K : Type 0} (k : K) (xs : List (K × Unit {0})) (ys : List K) (c : Bool) → map (λ (x : K × Unit {0}). x.0) xs ≡ ys → map (λ (x : K × Unit {0}). x.0) (cond c ((k, tt {0}) ∷ xs) xs) ≡ cond c (k ∷ ys) ys
-one_more k xs ys true h = ap (◌∷◌ k) h
-one_more k xs ys false h = h
-
-module _ {K X : Type 0} (R : K → K → Ordering) (f : K → Bool) where
-  below_passed : (k : K) (es : List (K × X)) → T (below_all R k es) → T (below_all R k (passed f es))
-  below_passed k [] h = h
-  below_passed k (e ∷ es) h =
-      let rest : T (below_all R k (passed f es)) = below_passed k es (second _ _ h) in
-      elim (f e.0) as (λ c. T (below_all R k (cond c ((e.0, tt {0}) ∷ passed f es) (passed f es)))) [ true ↦ both _ _ (first _ _ h) rest | false ↦ rest ]
-
-  sorted_passed : (es : List (K × X)) → T (is_sorted R es) → T (is_sorted R (passed f es))
-  sorted_passed [] h = h
-  sorted_passed (e ∷ es) h =
-      let rest : T (is_sorted R (passed f es)) = sorted_passed es (second _ _ h) in
-      elim (f e.0) as (λ c. T (is_sorted R (cond c ((e.0, tt {0}) ∷ passed f es) (passed f es)))) [ true ↦ both _ _ (below_passed e.0 es (first _ _ h)) rest | false ↦ rest ]
-
-  one : (q : K) (e : K × X) (old : Option X) (rest : List (K × Unit {0})) (c b : Bool) → eq_by_cmp R q e.0 ≡ b → (b ≡ true → f q ≡ c) → find R q rest ≡ picked (λ _. f q) old → find R q (cond c ((e.0, tt {0}) ∷ rest) rest) ≡ picked (λ _. f q) (cond b (Some e.1) old)
-  one q e old rest true true is same h = ap (λ b. cond b (Some (tt {0})) (find R q rest)) is ∙ sym (ap (λ b. cond b (Some (tt {0})) None) (same refl))
-  one q e old rest true false is same h = ap (λ b. cond b (Some (tt {0})) (find R q rest)) is ∙ h
-  one q e old rest false true is same h = h ∙ none (f q) (same refl) old where
-    none : (b : Bool) → b ≡ false → (r : Option X) → picked (λ _. b) r ≡ cond b (Some (tt {0})) None
-    none true e r = no true e refl
-    none false e None = refl
-    none false e (Some x) = refl
-  one q e old rest false false is same h = h
-
-  find-passed : map.IsAntisymmetric R → (q : K) (es : List (K × X)) → find R q (passed f es) ≡ picked (λ _. f q) (find R q es)
-  find-passed a q [] = refl
-  find-passed a q (e ∷ es) = one q e (find R q es) (passed f es) (f e.0) (eq_by_cmp R q e.0) refl (λ t. ap f (tied a q e.0 t)) (find-passed a q es)
-
-  keys-passed : (es : List (K × X)) → map (λ e. e.0) (passed f es) ≡ filter f (map (λ e. e.0) es)
-  keys-passed [] = refl
-  keys-passed (e ∷ es) = one_more e.0 (passed f es) (filter f (map (λ e. e.0) es)) (f e.0) (keys-passed es)
-
-keys-chosen : {K X : Type 0} {R : K → K → Ordering} → IsTotalOrder R → map.IsAntisymmetric R → (f : K → Bool) (m : FinMap R X) → map.keys (chosen (λ q _. f q) m) ≡ filter f (map.keys m)
-keys-chosen {R = R} o a f m =
-    let sorted : T (is_sorted R (passed f (map.entries m))) = sorted_passed R f (map.entries m) (map.entries_sorted m) in
-    ap map.keys (map.same_map o a (chosen (λ q _. f q) m) (map.from_sorted (passed f (map.entries m))) (λ q.
-    get-chosen o a (λ q _. f q) m q
-    ∙ ap (picked (λ _. f q)) (map.get-entries m q)
-    ∙ sym (map.get-from_sorted R (passed f (map.entries m)) q sorted ∙ find-passed R f a q (map.entries m))))
-    ∙ ap (map (λ e. e.0)) (map.entries-from_sorted R (passed f (map.entries m)) sorted)
-    ∙ keys-passed R f (map.entries m)
+use Rattle.kp_cells.proofs.Listed.{keys-chosen}
+use Rattle.kp_cells.proofs.Maps.{no, picked, get-chosen, chosen-insert, chosen-over, chosen-remove, chosen-past, chosen-none}
+use Rattle.kp_cells.proofs.Paths.{path_total, path_same, child_parent, child_not_root, own_child, no_other_child, not_own_parent}
 
 -- the set of the children of a path
 abbrev kids_at : Nodes → List ℕ → PathSet
@@ -88,7 +22,7 @@ counted : (nodes : Nodes) (p : List ℕ) → length (children nodes p) ≡ map.l
 unfolding children
 counted nodes p = ap length (sym (keys-chosen path_total path_same (is_child p) nodes)) ∙ length-map (map.entries (kids_at nodes p)) (λ e. e.0) ∙ sym (map.len-entries (kids_at nodes p))
 
-const_picked : (b : Bool) (r : Option Node) → b ≡ false → picked (λ _. b) r ≡ None
+pub const_picked : (b : Bool) (r : Option Node) → b ≡ false → picked (λ _. b) r ≡ None
 const_picked true r e = no true e refl
 const_picked false None e = refl
 const_picked false (Some n) e = refl
@@ -160,6 +94,19 @@ module _ (nodes : Nodes) (path : List ℕ) (u v w : Node) (has_parent : map.get 
       counted (map.remove with_up path) q
       ∙ ap map.len (chosen-past path_total path_same (λ k _. is_child q k) with_up path (const_picked _ (map.get with_up path) (no_other_child q path h)) ∙ kids-over nodes (parent path) u v q has_parent)
       ∙ sym (counted nodes q)
+
+-- the parent's count, where a node is set at a path that was free
+pub count-made : (nodes : Nodes) (k : List ℕ) (v : Node) → bytes_eq k root ≡ false → map.get nodes k ≡ None → length (children (map.insert nodes k v) (parent k)) ≡ length (children nodes (parent k)) + 1
+count-made nodes k v not_root free =
+    counted (map.insert nodes k v) (parent k)
+    ∙ ap map.len (chosen-insert path_total path_same (λ q _. is_child (parent k) q) nodes k v (own_child k not_root))
+    ∙ map.len-insert path_total (kids_at nodes (parent k)) k tt
+    ∙ ap (λ r. cond (is_some r) (map.len (kids_at nodes (parent k))) (map.len (kids_at nodes (parent k)) + 1)) (get-kids_at nodes (parent k) k ∙ ap (picked (λ _. is_child (parent k) k)) free)
+    ∙ ap (λ n. n + 1) (sym (counted nodes (parent k)))
+
+-- the count of any path, where a node is set at the root
+pub count-root : (nodes : Nodes) (k : List ℕ) (v : Node) (p : List ℕ) → is_child p k ≡ false → length (children (map.insert nodes k v) p) ≡ length (children nodes p)
+count-root nodes k v p h = counted (map.insert nodes k v) p ∙ ap map.len (kids-beside nodes k v p h) ∙ sym (counted nodes p)
 
 -- the counts of all paths but the parent's, where a node is set or taken away
 pub count-beside : (nodes : Nodes) (k : List ℕ) (v : Node) (p : List ℕ) → eq_by_cmp path_cmp p (parent k) ≡ false → length (children (map.insert nodes k v) p) ≡ length (children nodes p)

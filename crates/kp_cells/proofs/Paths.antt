@@ -57,7 +57,7 @@ no_other_child p q h = decide (is_child p q) refl where
   decide true e = no (eq_by_cmp path_cmp p (parent q)) h (ap (eq_by_cmp path_cmp p) (child_parent p q e) ∙ ap is_eq (tied_itself path_total p))
 
 -- the last slash is within
-abbrev IsWithin : Option ℕ → ℕ → Type 0
+abbrev pub IsWithin : Option ℕ → ℕ → Type 0
 IsWithin None n = Unit {0}
 IsWithin (Some i) n = i < n
 
@@ -66,7 +66,7 @@ one_on (Some i) b n h = omega (arith, h)
 one_on None true n h = omega arith
 one_on None false n h = tt
 
-slash_in : (p : List ℕ) → IsWithin (last_slash p) (length p)
+pub slash_in : (p : List ℕ) → IsWithin (last_slash p) (length p)
 unfolding last_slash
 slash_in [] = tt
 slash_in (b ∷ bs) = one_on (last_slash bs) (b == 47) (length bs) (slash_in bs)

@@ -1,0 +1,4 @@
+pub mod Maps
+pub mod Tied
+pub mod Rising
+pub mod Seated

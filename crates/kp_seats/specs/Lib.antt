@@ -1,0 +1,4 @@
+pub mod Serving
+pub mod Seating
+pub mod Lending
+pub mod Index

@@ -1,0 +1,5 @@
+use Rattle.kp_worker.proofs.Released.{turn_few}
+use Rattle.kp_worker.proofs.turning.think_and_leave.Goals as goal
+
+pub release-requires-clause-waits : goal.release-requires-clause-waits
+release-requires-clause-waits g c = let k = c.in-Ok.ensures.tells in turn_few k.0 c.args.kinds.items k.1 c.in-Ok.notes.items (g.L.Lines.sees c.args.lines.now).waits k.2 k.3 k.4.accepts k.5 c.requires.waits

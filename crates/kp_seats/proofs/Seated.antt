@@ -1,8 +1,6 @@
 -- The connections, their numbers in order, and the sessions that they serve.
-use Rattle.std.proofs.Common.{◌≡◌, ℕ, ◌+◌, ◌<◌, Bool, true, false, not, cond, nat_eq, nat_lt, ◌&&◌, ◌||◌, List, [], ◌∷◌, Option, Some, None, is_some, refl, ap, sym, subst, ◌∙◌, arith}
-use Rattle.std.specs.Prelude.{map as each, slice_get, IfSome, IsSome}
-use Rattle.std.specs.Option.{OnSome, option_copied_mut}
-use Rattle.std.specs.Borrow.{MutBor}
+use Rattle.std.proofs.Common.{◌≡◌, ℕ, ◌<◌, Bool, true, false, not, cond, nat_eq, nat_lt, ◌&&◌, ◌||◌, List, [], ◌∷◌, Option, Some, None, is_some, refl, ap, sym, subst, ◌∙◌, arith}
+use Rattle.std.specs.Prelude.{slice_get, IfSome, IsSome}
 use Rattle.std.specs.List.{list_any, filter}
 use Rattle.std.specs.List.Sorted.{IsStrictlySortedBy}
 use Rattle.std.specs.Map.{set_value}
@@ -15,7 +13,7 @@ use Rattle.std.specs.FinMap.{FinMap}
 use Rattle.kp_seats.specs.Serving.{Served, is_that, serves, without, IsServer}
 use Rattle.kp_seats.specs.Seating.{above, IsNext, Leads}
 use Rattle.kp_seats.specs.Index.{at, base_of, AreSeated}
-use Rattle.kp_seats.proofs.Maps.{no, same, get-base_of, get-put, get-taken, at_is}
+use Rattle.kp_seats.proofs.Maps.{no, same, get-put, get-taken, at_is}
 use Rattle.kp_seats.proofs.Tied.{get-without}
 use Rattle.kp_seats.proofs.Rising.{has, Rises, rises_sorted, rises_entries, same_rising, has_above, all_above, Begins, begins}
 
@@ -162,10 +160,6 @@ seated_none seats numbers sessions none none' nobody = record {
 
 -- ---- what a connection holds is written over
 module _ {S : Type 0} where
-  pub on_some : (r : Option (MutBor S)) {P : Type 0} → (is_some (option_copied_mut r) ≡ true → P) → OnSome r P
-  on_some None f = tt
-  on_some (Some x) f = f refl
-
   written : (k q : ℕ) (w : S) (e : ℕ × S) (es : List (ℕ × S)) (b c : Bool) → is_some (at (set_value (nat_eq k) es w) q) ≡ is_some (at es q) → nat_eq q e.0 ≡ c → is_some (at (cond b ((e.0, w) ∷ es) (e ∷ set_value (nat_eq k) es w)) q) ≡ is_some (cond c (Some e.1) (at es q))
   written k q w e es true true h f = ap (λ d. is_some (cond d (Some w) (at es q))) f
   written k q w e es true false h f = ap (λ d. is_some (cond d (Some w) (at es q))) f

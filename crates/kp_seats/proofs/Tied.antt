@@ -1,11 +1,9 @@
 -- The session of each connection and the connection of each session.
-use Rattle.std.proofs.Common.{◌≡◌, ℕ, ◌<◌, Bool, true, false, not, cond, nat_eq, List, Option, Some, None, is_some, refl, ap, sym, subst, ◌∙◌}
-use Rattle.std.specs.Ordering.{nat_cmp}
-use Rattle.std.specs.declared.cmp.Ordering.TheVariants.{Equal}
+use Rattle.std.proofs.Common.{◌≡◌, ℕ, Bool, true, false, not, cond, nat_eq, List, Option, Some, None, refl, ap, sym, ◌∙◌}
 use Rattle.std.specs.Cmp.{nat_eq_equiv}
 use Rattle.std.proofs.lemmas.Bool.{eqb-true}
 use Rattle.std.specs.FinMap as map
-use Rattle.std.specs.FinMap.{FinMap, nat_cmp-IsAntisymmetric}
+use Rattle.std.specs.FinMap.{nat_cmp-IsAntisymmetric}
 use Rattle.kp_seats.specs.Serving.{Served, is_that, serves, without, IsServer}
 use Rattle.kp_seats.specs.Index.{at, base_of, AreTied}
 use Rattle.kp_seats.proofs.Maps.{no, same, get-base_of, get-put, get-taken, at_is}
@@ -32,7 +30,7 @@ module _ (sessions conns : List (ℕ × ℕ)) (m : Served) (is : base_of session
   server_is session r e = named m session r (λ q. serves_is session q ∙ ap (λ o. is_that o q) (sym e))
 
   pub none_leaves : (session : ℕ) → at conns session ≡ None → base_of sessions ≡ without m session
-  none_leaves session e = is ∙ same _ _ (λ q. 
+  none_leaves session e = is ∙ same _ _ (λ q.
       sym (ap (λ b. cond (not b) (map.get m q) None) (serves_is session q ∙ ap (λ o. is_that o q) e)) ∙ sym (get-without m session q))
 
   pub one_leaves : (session k : ℕ) → Some k ≡ at conns session → (sessions' : List (ℕ × ℕ)) → ((q : ℕ) → at sessions' q ≡ cond (nat_eq k q) None (at sessions q)) → base_of sessions' ≡ without m session

@@ -1,8 +1,8 @@
-use Rattle.std.proofs.Common.{ap, sym, refl, is_some, nat_eq, ◌∙◌}
+use Rattle.std.proofs.Common.{ap, refl, is_some, ◌∙◌}
 use Rattle.kp_seats.specs.Seating.{holding}
 use Rattle.kp_seats.specs.Index.{base_of, at}
-use Rattle.kp_seats.proofs.Maps.{at_is, base_put, base_kept}
-use Rattle.kp_seats.proofs.Seated.{seated_same, same_written, on_some}
+use Rattle.kp_seats.proofs.Maps.{at_is, base_put}
+use Rattle.kp_seats.proofs.Seated.{seated_same, same_written}
 use Rattle.kp_seats.proofs.seats.Seats.get_mut.Goals as goal
 
 pub invariant_of-self-lent : goal.invariant_of-self-lent
@@ -15,18 +15,20 @@ invariant_of-self-lent g c = λ r. (
 
 pub returns : goal.returns
 returns g c = (
-  (refl,
-    λ w. on_some c.get_mut.result (λ there. (λ i. record {
+  (
+    refl,
+    λ w there. (λ i. record {
       next = c.self.inside.next;
-      seats = base_put c.self.inside.seats.entries (c.get_mut.follows.lender w).entries (base_of c.self.inside.seats.entries) refl c.args.conn w ((c.get_mut.follows.holds w).3 (ap is_some (sym c.get_mut.ensures.value) ∙ there)).0 i;
+      seats = base_put c.self.inside.seats.entries (c.get_mut.follows.lender w).entries (base_of c.self.inside.seats.entries) refl c.args.conn w ((c.get_mut.follows.holds w).3 (ap is_some (at_is c.self.inside.seats.entries c.self.inside.seats.entries c.args.self.now.seats (ap (λ t. t.seats) c.self.view_is) c.args.conn) ∙ there)).0 i;
       sessions = c.self.inside.sessions.sessions;
       has_room = c.self.inside.sessions.has_room;
-    }) ∙ ap (λ t. holding t c.args.conn w) c.self.view_is),
+    }) ∙ ap (λ t. holding t c.args.conn w) c.self.view_is,
     (λ i. record {
       next = c.self.inside.next;
       seats = base_of (c.get_mut.follows.holds-at-none i).entries;
       sessions = c.self.inside.sessions.sessions;
       has_room = c.self.inside.sessions.has_room;
-    }) ∙ c.self.view_is),
+    }) ∙ c.self.view_is,
+  ),
   record { writes_back = tt; value = c.get_mut.ensures.value ∙ at_is c.self.inside.seats.entries c.self.inside.seats.entries c.args.self.now.seats (ap (λ t. t.seats) c.self.view_is) c.args.conn },
 )

@@ -1,6 +1,4 @@
-use Rattle.std.proofs.Common.{ap, sym, is_some, refl, arith, ◌∙◌}
-use Rattle.std.specs.FinMap as map
-use Rattle.std.specs.Ordering.{nat_cmp}
+use Rattle.std.proofs.Common.{ap}
 use Rattle.kp_seats.specs.Index.{base_of}
 use Rattle.kp_seats.proofs.Seated.{seated_none}
 use Rattle.kp_seats.proofs.seats.Seats.new.Goals as goal

@@ -15,5 +15,5 @@ invariant_of-self c = (
 pub returns-clause-change : goal.returns-clause-change
 returns-clause-change c = ap (λ m. record { sessions = m; has_room = false }) (
     base_more c.args.self.now.sessions c.args.session c.args.conn c.self.inside.sessions.entries c.self.inside.conns.entries c.put_reserved.new.map.entries c.put_reserved-2.new.map.entries
-        (ap (λ s. s.sessions) (c.self.view_is ∙ c.leave.ensures.change) ∙ ap (λ s. map.remove s.sessions c.args.conn) c.end-before.ensures.change)
-        c.self.invariant.0 c.put_reserved.ensures c.put_reserved-2.ensures)
+    (ap (λ s. s.sessions) (c.self.view_is ∙ c.leave.ensures.change) ∙ ap (λ s. map.remove s.sessions c.args.conn) c.end-before.ensures.change)
+    c.self.invariant.0 c.put_reserved.ensures c.put_reserved-2.ensures)

@@ -1,4 +1,4 @@
-use Rattle.std.proofs.Common.{Some, ap, sym, ◌∙◌}
+use Rattle.std.proofs.Common.{ap, ◌∙◌}
 use Rattle.kp_seats.proofs.Maps.{at_is, base_taken}
 use Rattle.kp_seats.proofs.sessions.Sessions.leave.Goals as goal
 

@@ -26,6 +26,9 @@ module _ {S : Type 0} (next : ℕ) (seats : List (ℕ × S)) (numbers : BTreeSet
   pub fresh : at seats next ≡ None
   fresh = none_is (at seats next) (λ e. omega (arith, (h.within next e).1))
 
+  pub idle : map.get sessions next ≡ None
+  idle = none_is (map.get sessions next) (λ e. omega (arith, (h.within next (h.seated next e)).1))
+
   -- other sessions, of connections that are there
   pub seated_by : (sessions' : Served) → ((q : ℕ) → is_some (map.get sessions' q) ≡ true → is_some (at seats q) ≡ true) → AreSeated next seats numbers sessions'
   seated_by sessions' f = record { begun = h.begun; ordered = h.ordered; within = h.within; seated = f }

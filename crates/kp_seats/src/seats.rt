@@ -118,6 +118,7 @@ impl<S> Seats<S> {
         S: Drop,
         ensures number { IfOk result (λ k. k ≡ self.old.next) }
         ensures fresh { map.get self.old.seats self.old.next ≡ None }
+        ensures idle { map.get self.old.sessions self.old.next ≡ None }
         ensures ok { OnOk result (self.new ≡ accepted self.old seat) }
         ensures err { OnErr result (self.new ≡ self.old) }
     {

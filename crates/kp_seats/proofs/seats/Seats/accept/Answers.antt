@@ -3,7 +3,7 @@ use Rattle.std.specs.FinMap as map
 use Rattle.kp_seats.specs.Seating.{accepted}
 use Rattle.kp_seats.specs.Index.{base_of}
 use Rattle.kp_seats.proofs.Maps.{on_err, get-base_of, base_put, base_kept}
-use Rattle.kp_seats.proofs.Seated.{fresh}
+use Rattle.kp_seats.proofs.Seated.{fresh, idle}
 use Rattle.kp_seats.proofs.seats.Seats.accept.Goals as goal
 
 pub returns-then-conn-clause-fresh : goal.returns-then-conn-clause-fresh
@@ -30,3 +30,12 @@ returns-clause-ok g c = (λ i. record {
   sessions = c.self.inside.sessions.sessions;
   has_room = c.self.inside.sessions.has_room;
 }) ∙ ap (λ t. accepted t c.args.seat) c.self.view_is
+
+pub returns-then-conn-clause-idle : goal.returns-then-conn-clause-idle
+returns-then-conn-clause-idle g c = ap (λ t. map.get t.sessions t.next) (sym c.self.view_is) ∙ idle c.self.inside.next c.self.inside.seats.entries c.self.inside.order c.self.inside.sessions.sessions c.self.invariant
+
+pub returns-in_err-enter-clause-idle : goal.returns-in_err-enter-clause-idle
+returns-in_err-enter-clause-idle g c = ap (λ t. map.get t.sessions t.next) (sym c.self.view_is) ∙ idle c.self.inside.next c.self.inside.seats.entries c.self.inside.order c.self.inside.sessions.sessions c.self.invariant
+
+pub returns-clause-idle : goal.returns-clause-idle
+returns-clause-idle g c = ap (λ t. map.get t.sessions t.next) (sym c.self.view_is) ∙ idle c.self.inside.next c.self.inside.seats.entries c.self.inside.order c.self.inside.sessions.sessions c.self.invariant

@@ -7,3 +7,4 @@ pub mod Turns
 pub mod Posts
 pub mod Sharing
 pub mod TaskLaws
+pub mod Members

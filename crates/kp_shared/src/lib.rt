@@ -3,6 +3,7 @@
 
 mod kept;
 mod node;
+mod peer_links;
 mod peers;
 mod plan;
 mod probes;

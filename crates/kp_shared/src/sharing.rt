@@ -123,7 +123,7 @@ fn make_links<M: Carried>(
 }
 
 // A seat of a link, where there is one.
-fn split_link<M: Carried>(
+pub(crate) fn split_link<M: Carried>(
     link: &Option<Links<M>>,
     seat: &mut Option<LinkSeat<M>>,
 ) -> Option<LinkSeat<M>>

@@ -11,6 +11,8 @@ mod lines;
 #[cfg(test)]
 mod region;
 #[cfg(test)]
+mod seats;
+#[cfg(test)]
 mod texts;
 #[cfg(test)]
 mod turn;

@@ -35,3 +35,5 @@ pub mod Longest
 pub mod NetworkRuns
 pub mod ChangedRuns
 pub mod Laid
+mod Standing
+mod Acting

@@ -7,3 +7,4 @@ pub mod Broken
 pub mod Net
 pub mod NetworkRuns
 pub mod ChangedRuns
+pub mod Acted

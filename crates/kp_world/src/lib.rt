@@ -8,6 +8,7 @@
 //! them in figure 3.2; `specs/Laws.antt` has them in full.
 #![tactic(auto)]
 
+mod acted;
 mod network;
 
 ghost use Rattle.kp_world.specs.Laws.{
@@ -35,6 +36,7 @@ ghost use Rattle.kp_world.specs.Broken.{
   OldEntriesAreNotCounted,
 };
 
+pub use acted::writes_act_once;
 pub use network::{network_rules_are_needed, networks_of_three, one_list, one_log};
 
 /// Election Safety (thesis, section 3.4): at most one leader is elected in a term.

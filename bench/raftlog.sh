@@ -1,11 +1,20 @@
 #!/bin/sh
 # Times messages of 64 entries with 100 bytes of data from a leader's log into those of two followers, and the same
-# rounds over Rust's queues of vectors: user time, best of five.
-# Usage: bench/raftlog.sh PROGRAM, the built program of the crate bench_raftlog.
+# rounds over Rust's queues of vectors: user time, best of five; or callgrind's count of instructions.
+# Usage: bench/raftlog.sh PROGRAM [callgrind], the built program of the crate bench_raftlog.
 set -e
 program=$1
+way=${2:-time}
 folder=$(mktemp -d)
+trap 'rm -r "$folder"' EXIT
 rustc --edition 2021 -O -o "$folder/raftlog" "$(dirname "$0")/raftlog.rs"
+if [ "$way" = callgrind ]; then
+    for each in "$program" "$folder/raftlog"; do
+        valgrind --tool=callgrind --callgrind-out-file=/dev/null "$each" 200 2> "$folder/told" > "$folder/said"
+        sed -n 's/.*Collected *: *//p' "$folder/told"
+    done | paste -s | awk '{ printf "%.0f instructions an entry, plain %.0f; %.2f times as many\n", $1 / 12800, $2 / 12800, $1 / $2 }'
+    exit
+fi
 for each in "$program" "$folder/raftlog"; do
     best=
     for _ in 1 2 3 4 5; do
@@ -15,4 +24,3 @@ for each in "$program" "$folder/raftlog"; do
     done
     echo "$(basename "$each"): $best s for 1,280,000 entries: $(cat "$folder/said")"
 done
-rm -r "$folder"

@@ -1,1 +1,9 @@
-mod Staging
+pub mod Staging
+pub mod HeadBytes
+pub mod Bodies
+pub mod Framing
+pub mod Standing
+mod Reading
+mod Batches
+mod Whole
+pub mod NewJournal

@@ -1,1 +1,5 @@
 pub mod Gates
+pub mod Frames
+pub mod Heads
+pub mod Journals
+pub mod Answers

@@ -1,0 +1,13 @@
+pub mod Tables
+pub mod Parts
+pub mod Moving
+pub mod Settles
+pub mod Serves
+pub mod Commits
+pub mod Resting
+pub mod Steps
+pub mod Advances
+pub mod Runs
+pub mod Rows
+pub mod Causes
+pub mod Lawful

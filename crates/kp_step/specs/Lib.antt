@@ -1,0 +1,13 @@
+pub mod Node
+pub mod Choices
+pub mod Answers
+pub mod Settling
+pub mod Handing
+pub mod Tables
+pub mod Committing
+pub mod Applying
+pub mod Asking
+pub mod Step
+pub mod Runs
+pub mod Rows
+pub mod Causes

@@ -178,8 +178,21 @@ catches_up = refl
 abbrev line14 : World
 line14 = line12
 
-forwards : told 1 (at line14 1 (event.Deliver (mail.Forward 1 2 body.Noop))) ≡ (Leader, (1, (2, 2)))
+abbrev forward : World → World
+forward w = at w 1 (event.Deliver (mail.Forward 1 2 body.Noop))
+
+forwards : told 1 (forward line14) ≡ (Leader, (1, (2, 2)))
 forwards = refl
+
+-- the node proposes it the first time that it comes
+abbrev line16 : World
+line16 = writes 1 (body.Noop ∷ []) (forward line14)
+
+proposes : told 1 line16 ≡ (Leader, (1, (3, 2)))
+proposes = refl
+
+forwards_again : told 1 (forward (forward line16)) ≡ (Leader, (1, (3, 2)))
+forwards_again = refl
 
 -- ---- an image in place of entries
 

@@ -8,7 +8,7 @@ use Rattle.kp_jute.specs.declared.fault.JuteFail.TheVariants.{Short}
 use Rattle.kp_jute.specs.Form.{◌>>=◌, Fails}
 use Rattle.kp_jute.proofs.Combined.{bind_ok, ok_is}
 use Rattle.kp_jute.proofs.Loops.{failed}
-use Rattle.kp_journal.specs.Frames.{Run, no_run, then_run, with_run, run_at, Framed, shut_at, behind, body_len, batch_by, frames}
+use Rattle.kp_journal.specs.Frames.{Run, then_run, with_run, run_at, Framed, body_len, batch_by, frames}
 use Rattle.kp_journal.specs.Answers.{ReadsBatch, TellsGate, batch_run, with_framed}
 use Rattle.kp_journal.proofs.Framing.{run_then, then_none, closed, opened_gate, no_gate}
 

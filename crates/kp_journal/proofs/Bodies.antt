@@ -1,17 +1,15 @@
 -- The records of a batch are read again.
-use Rattle.std.proofs.Common.{◌≡◌, ℕ, zero, suc, ◌+◌, ◌≤◌, Bool, true, false, ◌||◌, List, [], ◌∷◌, ◌++◌, length, Ok, Err, refl, sym, ◌∙◌, ap, subst, arith, length-append}
-use Rattle.std.specs.Int.{w8}
+use Rattle.std.proofs.Common.{◌≡◌, ℕ, zero, suc, ◌+◌, ◌≤◌, Bool, true, false, ◌||◌, List, [], ◌∷◌, ◌++◌, length, Ok, refl, sym, ◌∙◌, ap, arith, length-append}
 use Rattle.std.proofs.lemmas.List.Concat.{flat_map-cons}
 use Rattle.kp_jute.specs.Form.{Place, front, ◌>>=◌}
 use Rattle.kp_jute.specs.Jute.{unsigned}
-use Rattle.kp_model.specs.LogEntry.{LogEntry}
 use Rattle.kp_entry.specs.declared.record.Record.{Record}
 use Rattle.kp_entry.specs.declared.record.Record.TheVariants as record_
-use Rattle.kp_entry.specs.Records.{records, spelled, is_base, has_base, IsRecord, IsRun}
+use Rattle.kp_entry.specs.Records.{records, spelled, is_base, has_base, IsRun}
 use Rattle.kp_entry.proofs.RecordLaws.{records_lawful}
 use Rattle.kp_entry.proofs.Runs.{record_fits}
-use Rattle.kp_journal.specs.Frames.{Run, no_run, one_at, then_run, with_run, run_from, run_at}
-use Rattle.kp_journal.specs.Journals.{places_from, run_of}
+use Rattle.kp_journal.specs.Frames.{no_run, one_at, with_run, run_from, run_at}
+use Rattle.kp_journal.specs.Journals.{run_of}
 
 spelled_cons : (r : Record) (rs : List Record) → spelled (r ∷ rs) ≡ records.spell r ++ spelled rs
 unfolding spelled

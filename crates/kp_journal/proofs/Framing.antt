@@ -1,5 +1,5 @@
 -- A journal's batches stand for the same whatever stands behind the first gate that is not open, and a batch may be added there.
-use Rattle.std.proofs.Common.{◌≡◌, inl, inr, ℕ, zero, suc, ◌+◌, ◌-◌, ◌^◌, ◌≤◌, ◌<◌, Bool, true, false, cond, List, [], ◌∷◌, ◌++◌, length, take, drop, take-append-drop, append_assoc, append-nil, Result, Ok, Err, refl, sym, ◌∙◌, ap, subst, arith, length-append, length-drop}
+use Rattle.std.proofs.Common.{◌≡◌, inl, inr, ℕ, zero, suc, ◌+◌, ◌≤◌, ◌<◌, Bool, true, false, cond, List, [], ◌∷◌, ◌++◌, length, take, drop, take-append-drop, append_assoc, append-nil, Result, Ok, Err, refl, sym, ◌∙◌, ap, arith, length-append, length-drop}
 use Rattle.std.specs.Prelude.{nat_lt, nat_eq}
 use Rattle.std.specs.Int.{w32, from_be_bytes}
 use Rattle.std.proofs.lemmas.Bool.{cases_eq, cases_lt}
@@ -9,7 +9,6 @@ use Rattle.kp_jute.specs.declared.fault.JuteFail.{JuteFail}
 use Rattle.kp_jute.specs.declared.fault.JuteFail.TheVariants.{Short}
 use Rattle.kp_jute.specs.Form.{◌>>=◌}
 use Rattle.kp_jute.proofs.Combined.{bind_ok, ok_is}
-use Rattle.kp_entry.specs.declared.record.Record.{Record}
 use Rattle.kp_journal.specs.Frames.{Run, no_run, then_run, Framed, shut_at, behind, body_len, batch_by, run_at, frames}
 use Rattle.kp_journal.specs.Answers.{with_framed}
 

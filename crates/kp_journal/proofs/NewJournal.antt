@@ -1,5 +1,5 @@
 -- The journal of a new slot.
-use Rattle.std.proofs.Common.{◌≡◌, ℕ, suc, ◌+◌, ◌^◌, ◌≤◌, ◌<◌, Bool, true, false, cond, List, [], ◌∷◌, ◌++◌, length, get_or, take, drop, Option, Some, None, Result, Ok, Err, refl, sym, ◌∙◌, ap, subst, arith, length-append, length-drop}
+use Rattle.std.proofs.Common.{◌≡◌, ℕ, ◌^◌, ◌≤◌, ◌<◌, Bool, true, false, List, [], ◌∷◌, ◌++◌, length, take, drop, Some, None, Ok, refl, ◌∙◌, ap, arith, length-append, length-drop}
 use Rattle.std.specs.Prelude.{nat_le, nat_eq, ◌&&◌, ◌==◌, if◌then◌else◌}
 use Rattle.std.specs.Int.{w32, w64, to_be_bytes, from_be_bytes}
 use Rattle.std.proofs.lemmas.Bool.Decides.{nat_tests}
@@ -9,9 +9,9 @@ use Rattle.kp_model.specs.Grammar.{is_number}
 use Rattle.kp_entry.specs.declared.record.Record.{Record}
 use Rattle.kp_entry.specs.Records.{spelled, has_base, IsRun}
 use Rattle.kp_journal.specs.declared.head.Head.{Head}
-use Rattle.kp_journal.specs.Frames.{no_run, shut_at, frames}
+use Rattle.kp_journal.specs.Frames.{shut_at}
 use Rattle.kp_journal.specs.Gates.{staged, opened, appended}
-use Rattle.kp_journal.specs.Heads.{mark, is_open, head_in, is_generation, head_fault, IsHead, head_bytes, headed}
+use Rattle.kp_journal.specs.Heads.{mark, head_in, is_generation, head_fault, IsHead, headed}
 use Rattle.kp_journal.specs.Journals.{Journaled, written, journal_of, with_batch, unread, new_journal, finished}
 use Rattle.kp_journal.proofs.Staging.{staged_long}
 use Rattle.kp_journal.proofs.Framing.{closed}

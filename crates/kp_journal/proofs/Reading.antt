@@ -1,14 +1,13 @@
 -- Records and batches that are read from bytes.
-use Rattle.std.proofs.Common.{◌≡◌, ℕ, zero, suc, ◌+◌, ◌-◌, ◌≤◌, ◌<◌, Bool, true, false, cond, List, [], ◌∷◌, ◌++◌, length, get_or, take, drop, Option, Some, None, Result, Ok, Err, refl, sym, ◌∙◌, ap, subst, arith, length-append, length-drop}
-use Rattle.std.specs.Prelude.{nat_lt, nat_eq, ◌||◌, IfErr}
-use Rattle.std.proofs.lemmas.Bool.{cases_lt}
+use Rattle.std.proofs.Common.{◌≡◌, ℕ, zero, suc, ◌+◌, ◌-◌, ◌≤◌, ◌<◌, Bool, true, false, cond, List, [], ◌∷◌, ◌++◌, length, take, drop, Some, None, Result, Ok, Err, refl, sym, ◌∙◌, ap, subst, arith, length-append}
+use Rattle.std.specs.Prelude.{nat_lt, ◌||◌, IfErr}
 use Rattle.std.proofs.lemmas.Bool.Decides.{nat_tests}
-use Rattle.std.proofs.lemmas.List.{take_at, drop-drop, drop-take, length-take}
+use Rattle.std.proofs.lemmas.List.{take_at, drop-drop, drop-take}
 use Rattle.kp_jute.specs.declared.fault.JuteFail.{JuteFail}
 use Rattle.kp_jute.specs.declared.fault.JuteFail.TheVariants as jute
-use Rattle.kp_jute.specs.Form.{Place, front, ◌>>=◌, Gives, Fails, Answers, IsOfBytes, IsBytes}
+use Rattle.kp_jute.specs.Form.{Place, front, ◌>>=◌, Gives, Fails, IsOfBytes, IsBytes}
 use Rattle.kp_jute.specs.Jute.{raw_at, raws}
-use Rattle.kp_jute.proofs.Combined.{bind_ok, ok_is}
+use Rattle.kp_jute.proofs.Combined.{ok_is}
 use Rattle.kp_jute.proofs.Loops.{failed}
 use Rattle.kp_entry.specs.declared.record.Record.{Record}
 use Rattle.kp_entry.specs.Records.{records, is_base, has_base}
@@ -16,8 +15,8 @@ use Rattle.kp_entry.specs.Spellings.{record_of, IsRecordBytes}
 use Rattle.kp_entry.proofs.RecordLaws.{records_lawful}
 use Rattle.kp_entry.proofs.Spelled.{record_again}
 use Rattle.kp_entry.proofs.Runs.{spelled_no_base, open_behind}
-use Rattle.kp_journal.specs.Frames.{Run, no_run, one_at, then_run, with_run, run_from, run_at, Framed, shut_at, behind, body_len, batch_by, frames}
-use Rattle.kp_journal.specs.Answers.{ReadsOne, ReadsBatch, TellsGate, batch_end, batch_run, with_framed}
+use Rattle.kp_journal.specs.Frames.{Run, one_at, then_run, with_run, run_from, run_at, body_len}
+use Rattle.kp_journal.specs.Answers.{batch_end, batch_run}
 use Rattle.kp_journal.proofs.Bodies.{some_byte, read_step, run_none}
 use Rattle.kp_journal.proofs.Framing.{test_long, run_then, then_none}
 

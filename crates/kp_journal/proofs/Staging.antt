@@ -1,15 +1,15 @@
 -- What writes behind a gate make of a disk's bytes, and of what a crash leaves.
-use Rattle.std.proofs.Common.{◌≡◌, inl, inr, ℕ, suc, ◌+◌, ◌-◌, ◌^◌, ◌≤◌, ◌<◌, List, [], ◌∷◌, ◌++◌, length, get_or, take, drop, take-append-drop, append_assoc, Option, Some, None, Result, Ok, Err, refl, sym, ◌∙◌, ap, subst, arith, length-append, length-drop}
+use Rattle.std.proofs.Common.{◌≡◌, inl, inr, ℕ, ◌+◌, ◌≤◌, ◌<◌, List, [], ◌∷◌, ◌++◌, length, take, drop, take-append-drop, append_assoc, Option, Some, None, Result, Ok, Err, refl, sym, ◌∙◌, ap, subst, arith, length-append}
 use Rattle.std.specs.Prelude.{OnOk, OnErr, IfSome}
 use Rattle.std.specs.Option.{option_map}
-use Rattle.std.proofs.lemmas.List.{take_at, drop_at, drop_more, drop-drop, length-take}
+use Rattle.std.proofs.lemmas.List.{take_at, drop_at, drop-drop, length-take}
 use Rattle.std.specs.Int.{w32, to_be_bytes}
-use Rattle.kp_io.specs.Crash.{Past, MayLeave, LeavesIf, IsSettled, HasFront, IsButFor, HasRoom, wrote, synced, unsynced}
+use Rattle.kp_io.specs.Crash.{Past, MayLeave, LeavesIf, IsSettled, HasFront, IsButFor, HasRoom, wrote}
 use Rattle.kp_io.specs.Faults.{one_more}
 use Rattle.kp_io.specs.Disks.{written_at}
 use Rattle.kp_io.proofs.Leaving.{start}
 use Rattle.kp_io.proofs.Wears.{settled_kept}
-use Rattle.kp_io.proofs.Behind.{BehindIf, ByteTornIf, stepped, had_room, begun, wrote_behind, unsynced_behind, synced_behind, synced_settled, behind_leaves, byte_written, byte_unsynced, byte_synced, torn_run, joined_if, weakened_if}
+use Rattle.kp_io.proofs.Behind.{BehindIf, stepped, wrote_behind, joined_if, weakened_if}
 use Rattle.kp_journal.specs.Gates.{staged, opened, Appended}
 
 -- ---- bytes

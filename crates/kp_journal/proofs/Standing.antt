@@ -1,26 +1,26 @@
 -- What the bytes of a journal stand for, before, while and after a batch is added.
-use Rattle.std.proofs.Common.{◌≡◌, inl, inr, ℕ, zero, suc, ◌+◌, ◌-◌, ◌^◌, ◌≤◌, ◌<◌, Bool, true, false, cond, List, [], ◌∷◌, ◌++◌, length, get_or, take, drop, take-append-drop, append_assoc, Option, Some, None, Result, Ok, Err, refl, sym, ◌∙◌, ap, subst, arith, length-append, length-drop}
-use Rattle.std.specs.Prelude.{nat_lt, nat_le, nat_eq, ◌⊎◌, ◌&&◌, IfSome}
+use Rattle.std.proofs.Common.{◌≡◌, inl, inr, ℕ, zero, suc, ◌+◌, ◌^◌, ◌≤◌, ◌<◌, Bool, true, false, cond, List, [], ◌∷◌, ◌++◌, length, get_or, take, drop, take-append-drop, append_assoc, Option, Some, None, Result, Ok, Err, refl, sym, ◌∙◌, ap, subst, arith, length-append}
+use Rattle.std.specs.Prelude.{nat_le, nat_eq, ◌&&◌, IfSome}
 use Rattle.std.specs.Option.{option_map}
-use Rattle.std.specs.Int.{w32, to_be_bytes, from_be_bytes}
-use Rattle.std.proofs.lemmas.Bool.{cases_eq, cases_lt}
+use Rattle.std.specs.Int.{w32, to_be_bytes}
+use Rattle.std.proofs.lemmas.Bool.{cases_eq}
 use Rattle.std.proofs.lemmas.Bool.Decides.{nat_tests}
 use Rattle.std.proofs.lemmas.List.{take_at, drop_at, take-take, length-take}
 use Rattle.std.proofs.lemmas.Nat.{from_be_bytes-to_be_bytes_4}
-use Rattle.kp_io.specs.Crash.{HasFront, IsButFor}
+use Rattle.kp_io.specs.Crash.{HasFront}
 use Rattle.kp_jute.specs.declared.fault.JuteFail.{JuteFail}
 use Rattle.kp_entry.specs.declared.record.Record.{Record}
 use Rattle.kp_entry.specs.Records.{spelled, has_base, IsRun}
 use Rattle.kp_journal.specs.declared.fail.JournalFail.{JournalFail}
 use Rattle.kp_journal.specs.declared.fail.JournalFail.TheVariants as fail
 use Rattle.kp_journal.specs.declared.head.Head.{Head}
-use Rattle.kp_journal.specs.Frames.{Run, no_run, then_run, Framed, shut_at, behind, run_at, frames}
+use Rattle.kp_journal.specs.Frames.{Run, then_run, Framed, shut_at, behind, frames}
 use Rattle.kp_journal.specs.Answers.{with_framed}
 use Rattle.kp_journal.specs.Gates.{staged, opened, appended, Appended}
 use Rattle.kp_journal.specs.Heads.{is_open, head_in, head_fault}
 use Rattle.kp_journal.specs.Journals.{Journaled, behind_head, with_head, written, journal_of, run_of, with_batch, IsWithOrWithout, StandsFor}
 use Rattle.kp_journal.proofs.Bodies.{spelled_again}
-use Rattle.kp_journal.proofs.Framing.{test_eq, test_other, then_none, run_then, batch_step, closed, opened_gate, enough, Split, split}
+use Rattle.kp_journal.proofs.Framing.{test_eq, test_other, then_none, batch_step, closed, opened_gate, enough, Split, split}
 
 fail_ok : {A : Type 0} (P : Type 0) (e : JournalFail) (x : A) → Err e ≡ Ok x → P
 fail_ok P e x is = absurd cc
@@ -171,6 +171,12 @@ is_long xs e = long_of (nat_le 23 (length xs)) (nat_eq (get_or xs 0 0) 1) refl e
     long_of true g is both = let test : nat_le 23 (length xs) ≡ true = sym is in grind (arith, nat_tests)
     long_of false g is both = absurd (cc both)
 
+-- the first byte of a front
+pub front_byte : (k : ℕ) (l : List ℕ) → 0 < k → get_or (take k l) 0 0 ≡ get_or l 0 0
+front_byte zero l lt = absurd (omega (arith, lt))
+front_byte (suc k) [] lt = refl
+front_byte (suc k) (x ∷ l) lt = refl
+
 -- the front of an open journal, its gate among it, opens each journal that has it
 pub open_kept : (k : ℕ) (xs c : List ℕ) → 22 ≤ k → k < length c → take k c ≡ take k xs → is_open xs ≡ true → is_open c ≡ true
 open_kept k xs c le lt same e =
@@ -178,11 +184,6 @@ open_kept k xs c le lt same e =
     let first : get_or c 0 0 ≡ get_or xs 0 0 = sym (front_byte k c (omega (arith, le))) ∙ ap (λ (l : List ℕ). get_or l 0 0) same ∙ front_byte k xs (omega (arith, le)) in
     ap (λ (b : Bool). b && nat_eq (get_or c 0 0) 1) long ∙ ap (λ (n : ℕ). nat_eq n 1) first ∙ open_byte (nat_le 23 (length xs)) (nat_eq (get_or xs 0 0) 1) e
   where
-    front_byte : (k : ℕ) (l : List ℕ) → 0 < k → get_or (take k l) 0 0 ≡ get_or l 0 0
-    front_byte zero l lt = absurd (omega (arith, lt))
-    front_byte (suc k) [] lt = refl
-    front_byte (suc k) (x ∷ l) lt = refl
-
     open_byte : (a b : Bool) → (a && b) ≡ true → b ≡ true
     open_byte true b e = e
     open_byte false b e = absurd (cc e)

@@ -1,14 +1,14 @@
 -- What a whole journal is answered as, and what reading a disk gives.
-use Rattle.std.proofs.Common.{◌≡◌, inl, inr, ℕ, zero, suc, ◌+◌, ◌-◌, ◌≤◌, ◌<◌, Bool, true, false, cond, List, [], ◌∷◌, ◌++◌, length, get_or, take, drop, Option, Some, None, Result, Ok, Err, refl, sym, ◌∙◌, ap, subst, arith, length-drop, take-add}
+use Rattle.std.proofs.Common.{◌≡◌, inl, inr, ℕ, ◌+◌, ◌-◌, ◌≤◌, ◌<◌, Bool, true, false, cond, List, ◌++◌, length, get_or, take, drop, Option, Some, None, Result, Ok, Err, refl, sym, ◌∙◌, ap, subst, arith, length-drop, take-add}
 use Rattle.std.specs.Prelude.{nat_le, nat_eq, ◌&&◌, ◌⊎◌, ◌==◌, if◌then◌else◌, IfSome, IfOk}
 use Rattle.std.proofs.lemmas.Bool.{cases_lt}
 use Rattle.std.proofs.lemmas.Bool.Decides.{nat_tests}
 use Rattle.std.proofs.Math.Seq.{take-append-add}
 use Rattle.std.proofs.lemmas.List.{take-take, take_all, take-append-le, length-take, length-take-le}
-use Rattle.kp_io.specs.Disks.{TellsLength, ReadsAt}
+use Rattle.kp_io.specs.Disks.{ReadsAt}
 use Rattle.kp_jute.specs.declared.fault.JuteFail.{JuteFail}
 use Rattle.kp_jute.specs.declared.fault.JuteFail.TheVariants as jute
-use Rattle.kp_jute.specs.Form.{Fails, ◌>>=◌}
+use Rattle.kp_jute.specs.Form.{Fails}
 use Rattle.kp_journal.specs.declared.fail.JournalFail.{JournalFail}
 use Rattle.kp_journal.specs.declared.fail.JournalFail.TheVariants as fail
 use Rattle.kp_journal.specs.declared.head.Head.{Head}
@@ -16,15 +16,18 @@ use Rattle.kp_journal.specs.Frames.{Run, no_run, Framed, frames}
 use Rattle.kp_journal.specs.Answers.{Tells, TellsHead, IsOfReading, with_framed}
 use Rattle.kp_journal.specs.Heads.{is_open, head_in, head_fault, generation, open_generation}
 use Rattle.kp_journal.specs.Journals.{Journaled, fail_of, behind_head, with_head, written, journal_of, StandsFor}
+use Rattle.kp_journal.proofs.Standing.{as_written, front_byte}
 
-at_open : (node : ℕ) (xs : List ℕ) → is_open xs ≡ true → journal_of node xs ≡ written node xs
-at_open node xs e = ap (λ (b : Bool). cond b (written node xs) (Err fail.Closed)) e
+-- no records stand before the first batch
+none_before : (m : Result Framed JuteFail) → with_framed no_run m ≡ m
+none_before (Ok f) = refl
+none_before (Err e) = refl
 
 -- a head that is refused
 pub head_refused : (node : ℕ) (xs : List ℕ) (e : JournalFail) → is_open xs ≡ true → TellsHead (Err e) (head_fault node (take 22 xs)) (head_in (take 22 xs)) → journal_of node xs ≡ Err e
 unfolding written
 head_refused node xs e opens tells =
-    at_open node xs opens ∙ ap (λ (o : Option ℕ). with_head o (head_in (take 22 xs)) (frames (length xs) 22 (drop 22 xs))) tells.1 ∙ ap Err (sym tells.2)
+    as_written node xs opens ∙ ap (λ (o : Option ℕ). with_head o (head_in (take 22 xs)) (frames (length xs) 22 (drop 22 xs))) tells.1 ∙ ap Err (sym tells.2)
 
 pub head_told : (node : ℕ) (xs : List ℕ) (e : JournalFail) → is_open xs ≡ true → TellsHead (Err e) (head_fault node (take 22 xs)) (head_in (take 22 xs)) → Tells {A = Journaled} (Err e) (journal_of node xs)
 head_told node xs e opens tells = subst (λ (f : JournalFail). Tells {A = Journaled} (Err f) (journal_of node xs)) (sym tells.2) (head_refused node xs e opens tells ∙ ap Err tells.2)
@@ -34,25 +37,17 @@ pub journal_read : (node : ℕ) (xs : List ℕ) (h : Head) (run : Run) (gate : �
     → with_framed no_run (frames (length xs) 22 (drop 22 xs)) ≡ Ok (record { run = run; gate = gate }) → journal_of node xs ≡ Ok (record { head = h; run = run; gate = gate })
 unfolding written
 journal_read node xs h run gate opens tells framed =
-    at_open node xs opens
+    as_written node xs opens
     ∙ ap (λ (o : Option ℕ). with_head o (head_in (take 22 xs)) (frames (length xs) 22 (drop 22 xs))) tells.0
     ∙ ap (behind_head (head_in (take 22 xs))) (sym (none_before (frames (length xs) 22 (drop 22 xs))) ∙ framed)
     ∙ ap (λ (x : Head). Ok (record { head = x; run = run; gate = gate })) (sym tells.1)
-  where
-    none_before : (m : Result Framed JuteFail) → with_framed no_run m ≡ m
-    none_before (Ok f) = refl
-    none_before (Err e) = refl
 
 refused_by : (node : ℕ) (xs : List ℕ) (e : JuteFail) → is_open xs ≡ true → head_fault node (take 22 xs) ≡ None → with_framed no_run (frames (length xs) 22 (drop 22 xs)) ≡ Err e → journal_of node xs ≡ Err (fail_of e)
 unfolding written
 refused_by node xs e opens fine f =
-    at_open node xs opens
+    as_written node xs opens
     ∙ ap (λ (o : Option ℕ). with_head o (head_in (take 22 xs)) (frames (length xs) 22 (drop 22 xs))) fine
     ∙ ap (behind_head (head_in (take 22 xs))) (sym (none_before (frames (length xs) 22 (drop 22 xs))) ∙ f)
-  where
-    none_before : (m : Result Framed JuteFail) → with_framed no_run m ≡ m
-    none_before (Ok f) = refl
-    none_before (Err e) = refl
 
 pub batches_told : (node : ℕ) (xs : List ℕ) (h : Head) (e : JuteFail) → is_open xs ≡ true → TellsHead (Ok h) (head_fault node (take 22 xs)) (head_in (take 22 xs))
     → Fails e (with_framed no_run (frames (length xs) 22 (drop 22 xs))) → Tells {A = Journaled} (Err (fail_of e)) (journal_of node xs)
@@ -89,30 +84,7 @@ filled_more (Some xs) o' old piece post n count same a le inside b =
     two : (l r : List ℕ) (n count : ℕ) → length l ≡ n → take (n + count) (l ++ r) ≡ l ++ take count r
     two l r n count is = ap (λ (k : ℕ). take (k + count) (l ++ r)) (sym is) ∙ take-append-add l r count
 
--- nothing more was given
-pub filled_end : (o : Option (List ℕ)) (into piece : List ℕ) (n count len : ℕ) → IfSome o (λ xs. (take n into ≡ take n xs) × (n ≤ length xs)) → n ≤ len → 0 < length piece → ReadsAt o n count piece → count ≡ 0
-    → IfSome o (λ xs. take n into ≡ take len xs)
-filled_end None into piece n count len a le some b none = tt
-filled_end (Some xs) into piece n count len a le some b none = a.0 ∙ over (cases_lt n (length xs))
-  where
-    over : (n < length xs) ⊎ (length xs ≤ n) → take n xs ≡ take len xs
-    over (inl less) = let more : 0 < count = b.1 less some in absurd (omega (arith, more, none))
-    over (inr ge) = take_all n xs ge ∙ sym (take_all len xs (omega (arith, ge, le)))
-
--- all of it was filled
-pub filled_all : (o o' : Option (List ℕ)) (into : List ℕ) (n len : ℕ) → o' ≡ o → IfSome o' (λ xs. (take n into ≡ take n xs) × (n ≤ length xs)) → n ≡ len → IfSome o (λ xs. take n into ≡ take len xs)
-filled_all o o' into n len same a is = by_disk o (subst (λ (q : Option (List ℕ)). IfSome q (λ xs. (take n into ≡ take n xs) × (n ≤ length xs))) same a)
-  where
-    by_disk : (q : Option (List ℕ)) → IfSome q (λ xs. (take n into ≡ take n xs) × (n ≤ length xs)) → IfSome q (λ xs. take n into ≡ take len xs)
-    by_disk None a = tt
-    by_disk (Some xs) a = a.0 ∙ ap (λ (k : ℕ). take k xs) is
-
 -- ---- the front of a journal
-
-front_byte : (k : ℕ) (l : List ℕ) → 0 < k → get_or (take k l) 0 0 ≡ get_or l 0 0
-front_byte zero l lt = absurd (omega (arith, lt))
-front_byte (suc k) [] lt = refl
-front_byte (suc k) (x ∷ l) lt = refl
 
 same_generation : (xs : List ℕ) → open_generation (take 23 xs) ≡ open_generation xs
 same_generation xs =
@@ -132,11 +104,6 @@ same_generation xs =
 pub generation_told : (o : Option (List ℕ)) (front : List ℕ) (told : Option ℕ) → told ≡ open_generation front → IfSome o (λ xs. front ≡ take 23 xs) → IfSome o (λ xs. told ≡ open_generation xs)
 generation_told None front told is a = tt
 generation_told (Some xs) front told is a = is ∙ ap open_generation a ∙ same_generation xs
-
--- the whole of a disk
-pub all_read : (o : Option (List ℕ)) (into items : List ℕ) (n len : ℕ) → TellsLength o len → items ≡ take n into → length into ≡ len → IfSome o (λ xs. take n into ≡ take (length into) xs) → IfSome o (λ xs. items ≡ xs)
-all_read None into items n len tells is size a = tt
-all_read (Some xs) into items n len tells is size a = is ∙ a ∙ take_all (length into) xs (omega (arith, tells, size))
 
 -- ---- answers
 

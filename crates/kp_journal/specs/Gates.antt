@@ -1,5 +1,5 @@
 -- A batch behind a gate: the gate's byte, which is 1 where it is open, the length of the batch in 32 bits, the batch, and the next gate.
-use Rattle.std.specs.Prelude.{ℕ, ◌+◌, ◌⊎◌, List, [], ◌∷◌, ◌++◌, length, take, drop}
+use Rattle.std.specs.Prelude.{ℕ, ◌+◌, ◌⊎◌, List, ◌∷◌, ◌++◌, length, take, drop}
 use Rattle.std.specs.Int.{w32, to_be_bytes}
 use Rattle.kp_io.specs.Crash.{HasFront, IsButFor}
 

@@ -1,5 +1,5 @@
 -- What the bytes of a journal stand for. The format is this project's own.
-use Rattle.std.specs.Prelude.{◌≡◌, ◌⊎◌, ℕ, ◌+◌, cond, List, [], ◌∷◌, ◌++◌, length, take, drop, Option, Some, None, Result, Ok, Err}
+use Rattle.std.specs.Prelude.{◌≡◌, ◌⊎◌, ℕ, ◌+◌, cond, List, [], ◌∷◌, length, take, drop, Option, Some, None, Result, Ok, Err}
 use Rattle.kp_jute.specs.declared.fault.JuteFail.{JuteFail}
 use Rattle.kp_jute.specs.declared.fault.JuteFail.TheVariants as jute
 use Rattle.kp_entry.specs.declared.record.Record.{Record}
@@ -7,7 +7,7 @@ use Rattle.kp_entry.specs.Records.{records, spelled}
 use Rattle.kp_journal.specs.declared.fail.JournalFail.{JournalFail}
 use Rattle.kp_journal.specs.declared.fail.JournalFail.TheVariants as fail
 use Rattle.kp_journal.specs.declared.head.Head.{Head}
-use Rattle.kp_journal.specs.Frames.{Run, no_run, then_run, Framed, shut_at, frames}
+use Rattle.kp_journal.specs.Frames.{Run, no_run, then_run, Framed, frames}
 use Rattle.kp_journal.specs.Gates.{opened, appended}
 use Rattle.kp_journal.specs.Heads.{is_open, head_in, head_fault, headed}
 

@@ -1,5 +1,4 @@
-use Rattle.std.proofs.Common.{◌≤◌, ◌+◌, length, ◌∙◌, arith}
-use borrow.Rule.Slice.PartMut.{put_mid, post_of}
+use Rattle.std.proofs.Common.{◌∙◌, arith}
 use Rattle.kp_journal.proofs.Whole.{filled_more}
 use Rattle.kp_journal.proofs.disk.fill.Goals as goal
 

@@ -1,4 +1,4 @@
-use Rattle.std.proofs.Common.{take, arith, length-take, length}
+use Rattle.std.proofs.Common.{take, arith, length-take}
 use Rattle.kp_journal.proofs.Reading.{passed}
 use Rattle.kp_journal.proofs.found.part.Goals as goal
 

@@ -1,7 +1,7 @@
-use Rattle.std.proofs.Common.{ℕ, List, Some, ◌≡◌, ◌+◌, ◌<◌, ◌≤◌, [], ◌∷◌, length, ⊎_elim, sym, ◌∙◌, ap, refl, arith}
+use Rattle.std.proofs.Common.{Some, ◌<◌, [], ◌∷◌, length, ⊎_elim, ◌∙◌, ap}
 use Rattle.std.proofs.lemmas.Result.{on_ok_weaker}
 use Rattle.std.specs.Option.{option_map}
-use Rattle.kp_io.specs.Crash.{IsButFor, HasRoom}
+use Rattle.kp_io.specs.Crash.{IsButFor}
 use Rattle.kp_io.specs.Disks.{written_at}
 use Rattle.kp_io.proofs.Behind.{had_room, stepped, byte_written, byte_unsynced, byte_synced, synced_settled, torn_run, passes, same_but_for}
 use Rattle.kp_journal.specs.Gates.{opened}

@@ -1,7 +1,7 @@
-use Rattle.std.proofs.Common.{ℕ, List, Some, ◌≡◌, ◌+◌, ◌<◌, ◌≤◌, [], ◌∷◌, length, ⊎_elim, sym, ◌∙◌, ap, refl, arith}
+use Rattle.std.proofs.Common.{◌+◌, ◌<◌, [], ◌∷◌, length, ⊎_elim, ◌∙◌, ap, arith}
 use Rattle.std.proofs.lemmas.Result.{on_ok_weaker}
 use Rattle.std.specs.Option.{option_map}
-use Rattle.kp_io.specs.Crash.{HasFront, HasRoom}
+use Rattle.kp_io.specs.Crash.{HasFront}
 use Rattle.kp_io.specs.Disks.{written_at}
 use Rattle.kp_io.proofs.Behind.{had_room, stepped, begun, unsynced_behind, synced_behind, synced_settled, behind_leaves, passes}
 use Rattle.kp_journal.specs.Gates.{staged}

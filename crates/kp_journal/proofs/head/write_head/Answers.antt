@@ -1,8 +1,8 @@
-use Rattle.std.proofs.Common.{ℕ, List, Some, ◌≡◌, ◌+◌, ◌<◌, ◌≤◌, length, ⊎_elim, sym, ◌∙◌, ap, refl, arith}
+use Rattle.std.proofs.Common.{◌<◌, length, ⊎_elim, ◌∙◌, ap, arith}
 use Rattle.std.proofs.lemmas.Result.{on_ok_weaker}
 use Rattle.std.specs.Option.{option_map}
 use Rattle.kp_io.specs.Crash.{HasFront}
-use Rattle.kp_io.specs.Disks.{written_at, cut_to}
+use Rattle.kp_io.specs.Disks.{cut_to}
 use Rattle.kp_io.proofs.Behind.{had_room, stepped, begun, cut_behind, unsynced_behind, synced_behind, synced_settled, behind_leaves, passes}
 use Rattle.kp_journal.specs.Heads.{headed}
 use Rattle.kp_journal.proofs.Staging.{either_way, some_of, writes_on}

@@ -6,7 +6,6 @@ use Rattle.kp_journal.specs.declared.fail.JournalFail.{JournalFail}
 use Rattle.kp_journal.specs.declared.head.Head.{Head}
 use Rattle.kp_journal.specs.Answers.{Tells, with_framed}
 use Rattle.kp_journal.specs.Frames.{Run, frames}
-use Rattle.kp_journal.specs.Heads.{is_open}
 use Rattle.kp_journal.specs.Journals.{Journaled, journal_of}
 use Rattle.kp_journal.proofs.Whole.{head_told, journal_read, batches_told, node_is}
 use Rattle.kp_journal.proofs.journal.journal_from.Goals as goal

@@ -1,4 +1,4 @@
-use Rattle.std.proofs.Common.{◌≡◌, ◌≤◌, ◌-◌, length, drop}
+use Rattle.std.proofs.Common.{◌-◌, length, drop}
 use Rattle.kp_journal.specs.Frames.{frames}
 use Rattle.kp_journal.specs.Answers.{with_framed}
 use Rattle.kp_journal.proofs.Batches.{FramesOn}

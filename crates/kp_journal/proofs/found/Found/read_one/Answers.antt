@@ -1,4 +1,4 @@
-use Rattle.std.proofs.Common.{◌≡◌, ◌-◌, ℕ, List, length, take, sym, ◌∙◌, ap, arith, length-take}
+use Rattle.std.proofs.Common.{◌-◌, ℕ, take, ◌∙◌, ap, arith, length-take}
 use Rattle.kp_entry.specs.declared.record.Record.{Record}
 use Rattle.kp_entry.specs.Spellings.{record_of}
 use Rattle.kp_journal.specs.Frames.{one_at, then_run}

@@ -1,4 +1,4 @@
-use Rattle.std.proofs.Common.{ℕ, length}
+use Rattle.std.proofs.Common.{length}
 use Rattle.kp_journal.specs.Frames.{with_run, run_at}
 use Rattle.kp_journal.proofs.Reading.{RunsOn}
 use Rattle.kp_journal.proofs.found.Found.read_run.Given as goal

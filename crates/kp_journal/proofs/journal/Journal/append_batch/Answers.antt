@@ -1,4 +1,4 @@
-use Rattle.std.proofs.Common.{ℕ, List, ◌≡◌, inl, sym, ◌∙◌, ap}
+use Rattle.std.proofs.Common.{◌≡◌, inl, sym, ◌∙◌, ap}
 use Rattle.kp_journal.specs.Gates.{Appended}
 use Rattle.kp_journal.specs.Journals.{Journaled, IsWithOrWithout}
 use Rattle.kp_journal.proofs.Standing.{left_at, gate_in, done_at}

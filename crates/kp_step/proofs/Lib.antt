@@ -7,6 +7,7 @@ pub mod Commits
 pub mod Resting
 pub mod Steps
 pub mod Advances
+pub mod Turning
 pub mod Runs
 pub mod Rows
 pub mod Causes

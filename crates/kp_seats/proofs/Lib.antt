@@ -2,3 +2,4 @@ pub mod Maps
 pub mod Tied
 pub mod Rising
 pub mod Seated
+pub mod Passing

@@ -116,6 +116,14 @@ module _ {S : Type 0} (next : ℕ) (seats : List (ℕ × S)) (numbers : BTreeSet
     pub all_are : above m 0 ≡ map.keys m
     all_are = all_above 0 (map.keys m) (λ q e. (h.within q (ap is_some (at_is seats seats m is q) ∙ sym (known q) ∙ e)).0)
 
+    -- no connection has the number 0, and each has one below the next
+    pub none_at : map.get m 0 ≡ None
+    none_at = none_is (map.get m 0) (λ e. omega (arith, (h.within 0 (ap is_some (at_is seats seats m is 0) ∙ e)).0))
+
+    pub next_below : (k : ℕ) (r : Option ℕ) → IsNext m k r → IfSome r (λ n. n < next)
+    next_below k None f = tt
+    next_below k (Some n) f = (h.within n (ap is_some (at_is seats seats m is n) ∙ f.1)).1
+
     in_above : (k q : ℕ) → has (above m k) q ≡ (nat_lt k q && is_some (map.get m q))
     in_above k q = has_above k q (map.keys m) ∙ ap (λ b. nat_lt k q && b) (known q)
 

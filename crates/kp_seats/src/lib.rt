@@ -5,9 +5,11 @@ mod numbered;
 mod order;
 mod seats;
 mod sessions;
+mod walk;
 
 pub use seats::Seats;
 pub use sessions::Sessions;
+pub use walk::{Change, change_all};
 
 /// No memory was found: std's own error of an allocation.
 pub type NoMemory = std::alloc::AllocError;

@@ -1,5 +1,5 @@
 //! The connections by their numbers.
-ghost use Rattle.std.specs.Prelude.{◌≡◌, true, None, IfOk, OnErr, IfSome, IsSome, OnOk};
+ghost use Rattle.std.specs.Prelude.{◌≡◌, ◌<◌, true, None, IfOk, OnErr, IfSome, IsSome, OnOk};
 ghost use Rattle.std.specs.Option.{option_copied, option_copied_mut};
 ghost use Rattle.std.specs.FinMap as map;
 ghost use Rattle.std.specs.Borrow.{sem};
@@ -105,8 +105,10 @@ impl<S> Seats<S> {
     /// The connection with the least number above `conn`. None exactly where there is none.
     pub fn next_after(&self, conn: u64) -> Option<u64>
         ensures next { IsNext self.now.seats conn result }
+        ensures below { IfSome result (λ k. k < self.now.next) }
         ensures list { Leads self.now.seats conn result }
         ensures all { above self.now.seats 0 ≡ map.keys self.now.seats }
+        ensures none { map.get self.now.seats 0 ≡ None }
     {
         next_above(&self.order, conn)
     }

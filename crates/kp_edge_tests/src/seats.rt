@@ -1,5 +1,5 @@
 //! Connections by their numbers, and the sessions that they serve.
-use kp_seats::{NoMemory, Seats};
+use kp_seats::{Change, NoMemory, Seats, change_all};
 use std::alloc::Global;
 use std::test::Fail;
 
@@ -64,12 +64,29 @@ fn are_ended(seats: &mut Seats<u64>) -> Result<bool, NoMemory> {
     Ok(joined && ended && left && removed && gone && fourth && listed)
 }
 
+// Makes all connections hold one value.
+struct Level {
+    to: u64,
+}
+
+impl Change<u64> for Level {
+    ghost use Rattle.std.specs.Prelude.{◌≡◌};
+
+    ghost changes = { λ level conn old new. new ≡ level.to };
+
+    fn change(&self, _conn: u64, seat: &mut u64) {
+        *seat = self.to;
+    }
+}
+
 #[test]
 fn connections_serve_sessions(rt: HostRuntime) -> Result<(), Fail> {
     let mut seats = Seats::new(rt.alloc());
     let numbered = are_numbered(&mut seats)?;
     let taken = is_taken_over(&mut seats)?;
     let ended = are_ended(&mut seats)?;
-    assert!(rt; numbered && taken && ended);
+    change_all(&mut seats, &Level { to: 5 });
+    let levelled = are_there(&seats, &[(1, 5), (2, 5), (4, 5)]);
+    assert!(rt; numbered && taken && ended && levelled);
     Ok(())
 }

@@ -13,4 +13,7 @@ pub trait Port: Drop {
 
     /// Whether nothing is kept that has yet to go out.
     fn is_free(&self) -> bool;
+
+    /// Lets go out what is kept and can go out now. The answer is whether something was kept, and nothing is any more.
+    fn flow(&mut self) -> bool;
 }

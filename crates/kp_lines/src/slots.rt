@@ -80,6 +80,17 @@ pub(crate) fn hand_slot<P: Port>(slots: &mut HashMap<u64, Slot<P>>, conn: u64, b
     }
 }
 
+/// Lets go out what is kept for a connection. The answer is whether something was kept, and nothing is any more.
+pub(crate) fn flow_slot<P: Port>(slots: &mut HashMap<u64, Slot<P>>, conn: u64) -> bool
+    ensures state { (c : ℕ) → state_at slots.new c ≡ state_at slots.old c }
+    ensures spare { spare slots.old ≤ spare slots.new }
+{
+    match slots.get_mut(&conn) {
+        Some(slot) => slot.port.flow(),
+        None => false,
+    }
+}
+
 /// Whether a piece may be taken of a connection, and bytes be handed to it.
 pub(crate) fn is_slot_ready<P: Port>(slots: &HashMap<u64, Slot<P>>, conn: u64) -> bool
     ensures { result ≡ true → is_there (state_at slots.now conn) ≡ true }

@@ -6,7 +6,7 @@ ghost use Rattle.kp_worker.specs.Outside.{HeardWithin, ended, is_there, opened, 
 ghost use Rattle.kp_lines.specs.Tables.{state_at};
 
 use crate::port::Port;
-use crate::slots::{Slot, end_slot, hand_slot, is_slot_ready, put_slot, remove_slot, take_slot};
+use crate::slots::{Slot, end_slot, flow_slot, hand_slot, is_slot_ready, put_slot, remove_slot, take_slot};
 use kp_worker::Heard;
 use std::alloc::Global;
 use std::collections::{HashMap, VecDeque};
@@ -91,6 +91,14 @@ impl<P: Port> Table<P> {
         ensures waits { length self.new.fresh.items ≡ length self.old.fresh.items }
     {
         hand_slot(&mut self.slots, conn, bytes);
+    }
+
+    /// Lets go out what is kept for a connection. The answer is whether something was kept, and nothing is any more.
+    pub fn flow(&mut self, conn: u64) -> bool
+        ensures state { (c : ℕ) → state_at self.new.slots c ≡ state_at self.old.slots c }
+        ensures waits { length self.new.fresh.items ≡ length self.old.fresh.items }
+    {
+        flow_slot(&mut self.slots, conn)
     }
 
     /// From now on nothing more is taken of a connection.

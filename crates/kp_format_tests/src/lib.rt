@@ -13,6 +13,8 @@ mod clients;
 #[cfg(test)]
 mod connects;
 #[cfg(test)]
+mod images;
+#[cfg(test)]
 mod jute;
 #[cfg(test)]
 mod model;

@@ -16,7 +16,7 @@ use Rattle.kp_entry.specs.Fields.{u32s, limited, numbers, timeouts, passwords, b
 use Rattle.kp_entry.proofs.FieldLaws.{u32s_lawful, limited_lawful, numbers_lawful, timeouts_lawful, blobs_lawful, strings_lawful, passwords_lawful, lists_lawful, origins_lawful}
 use Rattle.kp_snapshot.specs.Rows.{rows, AreRows}
 use Rattle.kp_snapshot.specs.Rules.{Numbered, Placed, numbers_of, holders_of, may_be_number, may_be_path, may_own}
-use Rattle.kp_snapshot.specs.Images.{nexts, is_positive, taken, smalls, lines, is_right, claims, figures, session_tested, session_with, session_from, session_behind, spell_session, sessions, node_with, node_from, node_fields, node_tested, node_behind, spell_node, nodes, is_some_node, marks, mark, Parts, parts}
+use Rattle.kp_snapshot.specs.Images.{nexts, is_positive, taken, smalls, lines, is_right, claims, figures, session_tested, session_with, session_from, session_behind, spell_session, sessions, node_with, node_from, node_fields, node_tested, node_behind, spell_node, nodes, is_some_node, marks, mark, tables, Parts, parts}
 use Rattle.kp_snapshot.specs.Snapshots.{Snapshot, parts_of, snapshot_of, images}
 use Rattle.kp_snapshot.proofs.RowLaws.{rows_lawful}
 use Rattle.kp_snapshot.proofs.Ordered.{to_T, rows_sorted, number_rises, path_rises}
@@ -60,9 +60,12 @@ pub nodes_lawful : (index : ℕ) (ids : List ℕ) → Lawful (nodes index ids)
 unfolding spell_node
 nodes_lawful index ids = limited_lawful is_some_node (rows spell_node (node_behind index ids)) (rows_lawful spell_node (node_behind index ids) (λ before. refl) (λ before. node_lawful _ _ _))
 
+tables_lawful : (index next : ℕ) → Lawful (tables index next)
+tables_lawful index next = tagged_lawful (sessions next) (λ ss. nodes index (numbers_of ss)) (sessions_lawful next) (λ ss. nodes_lawful index (numbers_of ss))
+
 pub parts_lawful : Lawful parts
-parts_lawful = limited_lawful _ (raws 4) (raws_lawful 4) & tagged_lawful numbers (λ index. numbers ⊗ tagged nexts (λ next. tagged (sessions next) (λ ss. nodes index (numbers_of ss)))) numbers_lawful
-    (λ index. numbers_lawful & tagged_lawful nexts (λ next. tagged (sessions next) (λ ss. nodes index (numbers_of ss))) nexts_lawful (λ next. tagged_lawful (sessions next) (λ ss. nodes index (numbers_of ss)) (sessions_lawful next) (λ ss. nodes_lawful index (numbers_of ss))))
+parts_lawful = limited_lawful _ (raws 4) (raws_lawful 4) & tagged_lawful numbers (λ index. numbers ⊗ tagged nexts (tables index)) numbers_lawful
+    (λ index. numbers_lawful & tagged_lawful nexts (tables index) nexts_lawful (tables_lawful index))
 
 -- ---- seen as a type that the fields of one value alone stand for
 

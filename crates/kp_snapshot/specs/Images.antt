@@ -3,6 +3,7 @@ use Rattle.std.specs.Prelude.{ℕ, Bool, true, false, nat_le, List, [], ◌∷�
 use Rattle.std.specs.Str.{bytes_eq}
 use Rattle.kp_model.specs.declared.node.Acl.{Acl}
 use Rattle.kp_model.specs.declared.session.Origin.{Origin}
+use Rattle.kp_model.specs.Path.{root}
 use Rattle.kp_jute.specs.Form.{Form, ◌⊗◌, seen, tagged}
 use Rattle.kp_jute.specs.Jute.{raws}
 use Rattle.kp_entry.specs.Fields.{u32s, limited, numbers, timeouts, passwords, blobs, strings, lists, origins}
@@ -122,7 +123,7 @@ node_tested index path owner = seen node_with node_from (tagged (limited path st
 
 -- behind these nodes, in an image with sessions of these numbers
 abbrev pub node_behind : ℕ → List ℕ → List Placed → Form Placed
-node_behind index ids before = node_tested index (may_be_path before) (may_own ids)
+node_behind index ids before = node_tested index (may_be_path before) (λ p. may_own ids (bytes_eq p root))
 
 unfoldable pub spell_node : Placed → List ℕ
 spell_node = (node_tested 0 (λ _. true) (λ _ _. true)).spell
@@ -138,14 +139,18 @@ nodes index ids = limited is_some_node (rows spell_node (node_behind index ids))
 -- ---- an image
 
 abbrev pub mark : List ℕ
-mark = codes "kpI1"
+mark = codes "KPI1"
 
 abbrev pub marks : Form (List ℕ)
 marks = limited (λ m. bytes_eq m mark) (raws 4)
+
+-- the sessions, and the nodes that they may own
+abbrev pub tables : ℕ → ℕ → Form (List Numbered × List Placed)
+tables index next = tagged (sessions next) (λ ss. nodes index (numbers_of ss))
 
 -- mark, index, term, next session number, sessions and nodes
 abbrev pub Parts : Type 0
 Parts = List ℕ × (ℕ × (ℕ × (ℕ × (List Numbered × List Placed))))
 
 abbrev pub parts : Form Parts
-parts = marks ⊗ tagged numbers (λ index. numbers ⊗ tagged nexts (λ next. tagged (sessions next) (λ ss. nodes index (numbers_of ss))))
+parts = marks ⊗ tagged numbers (λ index. numbers ⊗ tagged nexts (tables index))

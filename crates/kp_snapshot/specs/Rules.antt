@@ -43,5 +43,5 @@ may_be_path [] p = bytes_eq p root
 may_be_path (x ∷ xs) p = is_well_formed p && (list_all (λ (n : Placed). is_lt (path_cmp n.0 p)) (x ∷ xs) && is_open (x ∷ xs) (parent p))
 
 -- an owner is 0, or one of these sessions for another node than the root
-abbrev pub may_own : List ℕ → List ℕ → ℕ → Bool
-may_own sessions p owner = owner == 0 || (not (bytes_eq p root) && list_any (λ id. id == owner) sessions)
+abbrev pub may_own : List ℕ → Bool → ℕ → Bool
+may_own sessions is_root owner = owner == 0 || (not is_root && list_any (λ id. id == owner) sessions)

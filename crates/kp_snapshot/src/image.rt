@@ -1,8 +1,13 @@
 //! An image.
 
-ghost use Rattle.std.specs.Prelude.{◌≡◌, IfOk};
-ghost use Rattle.kp_snapshot.specs.Snapshots.{images};
+ghost use Rattle.std.specs.Prelude.{◌≡◌, IfOk, IsTrue};
+ghost use Rattle.kp_model.specs.Good.{IsSound};
+ghost use Rattle.kp_model.specs.Grammar.{is_number};
+ghost use Rattle.kp_jute.specs.Form.{IsBytes, whole};
+ghost use Rattle.kp_snapshot.specs.Snapshots.{Snapshot, images, Reads, IsImageOf};
 
+use crate::check::check;
+use crate::fail::ImageFail;
 use kp_model::NoMemory;
 use std::alloc::Global;
 use std::marker::Model;
@@ -52,6 +57,14 @@ impl Image {
         self.term
     }
 
+    /// The state is sound, and the term is a number. Does nothing: to lend a field opens what the type says of the image.
+    pub fn stays_sound(&self)
+        ensures sound { IsSound self.now.state }
+        ensures term { IsTrue (is_number self.now.term) }
+    {
+        let _bytes = &self.bytes;
+    }
+
     /// An equal value with memory of its own.
     pub fn copy(&self, alloc: Global) -> Result<Image, NoMemory>
         ensures { IfOk result (λ made. made ≡ self.now) }
@@ -61,5 +74,35 @@ impl Image {
             index: self.index,
             term: self.term,
         })
+    }
+
+    /// The image that the bytes are, to their end, with their memory.
+    pub fn from_vec(alloc: Global, bytes: Vec<u8>) -> Result<Image, ImageFail>
+        // What is read is spelled so.
+        ensures found { IfOk result (λ s. images.Fits s × (bytes.items ≡ images.spell s)) }
+        // What is spelled so is read, unless memory runs out.
+        ensures only { (s : Snapshot) → images.Fits s → bytes.items ≡ images.spell s → IsImageOf s result }
+        // And else the answer tells the first field that is refused.
+        ensures exact { Reads result (whole images bytes.items) }
+    {
+        Image::checked(alloc, bytes)
+    }
+
+    // The image that the bytes are, where reading them to their end says so.
+    fn checked(alloc: Global, bytes: Vec<u8>) -> Result<Image, ImageFail>
+        ensures read { Reads result (whole images bytes.items) }
+        ensures bytes { IsBytes bytes.items }
+    {
+        match check(alloc, &bytes) {
+            Ok(head) => Ok(Image {
+                bytes,
+                index: head.index,
+                term: head.term,
+            }),
+            Err(fail) => {
+                drop(bytes);
+                Err(ImageFail::from(fail))
+            }
+        }
     }
 }

@@ -9,6 +9,8 @@ mod io;
 #[cfg(test)]
 mod lines;
 #[cfg(test)]
+mod load;
+#[cfg(test)]
 mod region;
 #[cfg(test)]
 mod seats;

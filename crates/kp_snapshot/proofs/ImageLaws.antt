@@ -1,22 +1,21 @@
 -- The form of an image is lawful.
-use Rattle.std.proofs.Common.{◌≡◌, ℕ, ◌++◌, Bool, true, List, [], Ok, refl, sym, ap, subst, ◌∙◌}
+use Rattle.std.proofs.Common.{◌≡◌, ℕ, Bool, true, List, [], Ok, refl, sym, subst}
 use Rattle.std.specs.Ordering.{nat_cmp}
 use Rattle.std.specs.FinMap as map
 use Rattle.std.specs.FinMap.{is_sorted}
-use Rattle.std.specs.Str.{bytes_eq}
 use Rattle.std.proofs.lemmas.Slice.Eq.{bytes_eq-Decides}
 use Rattle.kp_model.specs.declared.session.Origin.{Origin}
 use Rattle.kp_model.specs.State.{path_cmp}
-use Rattle.kp_jute.specs.Form.{Lawful, Form, Place, Takes, ◌>>=◌, ◌⊗◌, tagged, seen, front}
+use Rattle.kp_jute.specs.Form.{Lawful, Form, Place, Takes, ◌⊗◌, tagged, seen}
 use Rattle.kp_jute.specs.Jute.{raws}
 use Rattle.kp_jute.proofs.Combined.{bind_ok, ok_is, seen_lawful, ◌&◌}
 use Rattle.kp_jute.proofs.Cases.{tagged_lawful}
 use Rattle.kp_jute.proofs.Numbers.{raws_lawful}
-use Rattle.kp_entry.specs.Fields.{u32s, limited, numbers, timeouts, passwords, blobs, strings, lists, origins}
+use Rattle.kp_entry.specs.Fields.{u32s, limited, numbers, strings, lists, origins}
 use Rattle.kp_entry.proofs.FieldLaws.{u32s_lawful, limited_lawful, numbers_lawful, timeouts_lawful, blobs_lawful, strings_lawful, passwords_lawful, lists_lawful, origins_lawful}
-use Rattle.kp_snapshot.specs.Rows.{rows, AreRows}
-use Rattle.kp_snapshot.specs.Rules.{Numbered, Placed, numbers_of, holders_of, may_be_number, may_be_path, may_own}
-use Rattle.kp_snapshot.specs.Images.{nexts, is_positive, taken, smalls, lines, is_right, claims, figures, session_tested, session_with, session_from, session_behind, spell_session, sessions, node_with, node_from, node_fields, node_tested, node_behind, spell_node, nodes, is_some_node, marks, mark, tables, Parts, parts}
+use Rattle.kp_snapshot.specs.Rows.{rows}
+use Rattle.kp_snapshot.specs.Rules.{Numbered, Placed, numbers_of, holders_of}
+use Rattle.kp_snapshot.specs.Images.{nexts, taken, smalls, lines, is_right, claims, figures, session_tested, session_with, session_from, session_behind, spell_session, sessions, node_with, node_from, node_fields, node_tested, node_behind, spell_node, nodes, is_some_node, mark, tables, Parts, parts}
 use Rattle.kp_snapshot.specs.Snapshots.{Snapshot, parts_of, snapshot_of, images}
 use Rattle.kp_snapshot.proofs.RowLaws.{rows_lawful}
 use Rattle.kp_snapshot.proofs.Ordered.{to_T, rows_sorted, number_rises, path_rises}

@@ -1,25 +1,16 @@
 -- A path is judged by the lengths kept of those before it.
-use Rattle.std.proofs.Common.{◌≡◌, ℕ, suc, ◌≤◌, ◌<◌, Bool, true, false, cond, List, [], ◌∷◌, ◌++◌, length, take, get_or, Option, Some, None, refl, sym, ap, subst, ◌∙◌, arith}
+use Rattle.std.proofs.Common.{◌≡◌, ℕ, Bool, true, false, List, [], ◌∷◌, length, take, refl, sym, ap, subst, ◌∙◌, arith}
 use Rattle.std.specs.Prelude.{◌&&◌, ◌==◌}
 use Rattle.std.specs.List.{list_all}
-use Rattle.std.specs.Option.{option_map_or}
-use Rattle.std.specs.Ordering.{nat_cmp, is_lt, is_eq, eq_by_cmp}
-use Rattle.std.specs.Cmp.{IsTotalOrder}
-use Rattle.std.specs.Cmp.Lexicographic.{nat_list_cmp_total}
+use Rattle.std.specs.Ordering.{is_lt}
 use Rattle.std.specs.Str.{bytes_eq}
-use Rattle.std.specs.declared.cmp.Ordering.{Ordering}
-use Rattle.std.specs.declared.cmp.Ordering.TheVariants.{Less, Equal, Greater}
-use Rattle.std.specs.FinMap.{find}
 use Rattle.std.proofs.lemmas.Bool.{eqb-true}
-use Rattle.std.proofs.lemmas.List.Folds.{list_all-append}
 use Rattle.std.proofs.lemmas.Slice.Eq.{bytes_eq-Decides}
-use Rattle.kp_model.specs.declared.node.Node.{Node}
-use Rattle.kp_model.specs.Path.{root, parent, is_well_formed, is_empty}
+use Rattle.kp_model.specs.Path.{root, parent, is_well_formed}
 use Rattle.kp_model.specs.State.{path_cmp}
 use Rattle.kp_snapshot.specs.Rules.{Placed, is_open, may_be_path}
-use Rattle.kp_snapshot.specs.Ups.{AreUps, NoneBehind, ChangedAt}
-use Rattle.kp_snapshot.specs.Knowing.{EndsAt, Tracks, Stand}
-use Rattle.kp_snapshot.proofs.Ordered.{left, right, path_rises}
+use Rattle.kp_snapshot.specs.Ups.{AreUps, NoneBehind}
+use Rattle.kp_snapshot.specs.Knowing.{EndsAt, Stand}
 
 pub came : (before : List Placed) (last path a b ups ups2 : List ℕ) → a ≡ last → b ≡ path → (AreUps (is_open before) a ups → NoneBehind (is_open before) a → AreUps (is_open before) b ups2) → EndsAt before last → AreUps (is_open before) last ups → AreUps (is_open before) path ups2
 came before last path a b ups ups2 ea eb up end lengths =

@@ -1,8 +1,8 @@
 -- An image read part by part.
-use Rattle.std.proofs.Common.{◌≡◌, ◌==◌, ℕ, Bool, true, List, [], Result, Ok, Err, length, refl, sym, ap, subst, ◌∙◌}
+use Rattle.std.proofs.Common.{◌≡◌, ◌==◌, ℕ, List, Result, Ok, Err, length, refl, ap, subst, ◌∙◌}
 use Rattle.kp_jute.specs.declared.fault.JuteFail.{JuteFail}
 use Rattle.kp_jute.specs.declared.fault.JuteFail.TheVariants.{BadByte}
-use Rattle.kp_jute.specs.Form.{Fails, Form, Place, front, ended, whole, ◌⊗◌, ◌>>=◌, tagged}
+use Rattle.kp_jute.specs.Form.{Place, front, ended, whole, ◌⊗◌, ◌>>=◌, tagged}
 use Rattle.kp_jute.proofs.Combined.{guard_in}
 use Rattle.kp_entry.specs.Fields.{numbers}
 use Rattle.kp_snapshot.specs.Rules.{Numbered, Placed, numbers_of}

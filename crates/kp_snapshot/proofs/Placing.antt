@@ -1,13 +1,13 @@
 -- Reading nodes as a loop does, and what stands around them.
-use Rattle.std.proofs.Common.{◌≡◌, ℕ, suc, ◌-◌, ◌+◌, ◌≤◌, ◌<◌, Bool, true, false, List, [], ◌∷◌, ◌++◌, length, Result, Ok, Err, refl, sym, ap, subst, ◌∙◌, arith}
+use Rattle.std.proofs.Common.{◌≡◌, ℕ, Bool, true, false, List, [], ◌∷◌, length, Ok, Err, refl, sym}
 use Rattle.std.specs.Int.{w32}
 use Rattle.kp_jute.specs.declared.fault.JuteFail.{JuteFail}
 use Rattle.kp_jute.specs.declared.fault.JuteFail.TheVariants.{BadByte}
-use Rattle.kp_jute.specs.Form.{Fails, Form, Place, Reading, ◌>>=◌, tagged}
+use Rattle.kp_jute.specs.Form.{Fails, Form, Place, Reading}
 use Rattle.kp_jute.specs.Jute.{unsigned_at}
 use Rattle.kp_jute.proofs.Loops.{failed}
 use Rattle.kp_entry.specs.Fields.{limited}
-use Rattle.kp_snapshot.specs.Rows.{rows_at, rows_in, rows}
+use Rattle.kp_snapshot.specs.Rows.{rows_at, rows_in}
 use Rattle.kp_snapshot.specs.Rules.{Placed}
 use Rattle.kp_snapshot.specs.Images.{node_behind, nodes, is_some_node}
 

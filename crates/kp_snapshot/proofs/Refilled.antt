@@ -1,23 +1,20 @@
 -- The parts of a snapshot, put into the empty state, make its state.
-use Rattle.std.proofs.Common.{◌≡◌, ℕ, ◌+◌, Bool, true, false, cond, T, List, [], ◌∷◌, ◌++◌, length, Option, Some, None, Result, Ok, refl, sym, ap, subst, ◌∙◌}
+use Rattle.std.proofs.Common.{◌≡◌, ℕ, ◌+◌, Bool, true, false, cond, T, List, [], ◌∷◌, length, Option, Some, None, Ok, refl, sym, ap, subst, ◌∙◌}
 use Rattle.std.specs.Prelude.{◌&&◌}
 use Rattle.std.proofs.lemmas.List.{append-nil}
 use Rattle.std.specs.Cmp.{IsTotalOrder, nat_cmp_total}
 use Rattle.std.specs.Cmp.Lexicographic.{nat_list_cmp_total}
-use Rattle.std.specs.Ordering.{nat_cmp, is_lt, is_eq, eq_by_cmp}
+use Rattle.std.specs.Ordering.{is_lt, is_eq, eq_by_cmp}
 use Rattle.std.specs.declared.cmp.Ordering.{Ordering}
-use Rattle.std.specs.declared.cmp.Ordering.TheVariants.{Less, Equal, Greater}
+use Rattle.std.specs.declared.cmp.Ordering.TheVariants.{Equal}
 use Rattle.std.specs.FinMap as map
 use Rattle.std.specs.FinMap.{FinMap, IsAntisymmetric, find, is_sorted, slice_cmp-IsAntisymmetric, nat_cmp-IsAntisymmetric}
 use Rattle.std.specs.FinMap.Entries.{below_all}
-use Rattle.std.specs.Str.{bytes_eq}
 use Rattle.std.proofs.lemmas.Slice.Eq.{bytes_eq-Decides}
 use Rattle.kp_jute.specs.Form.{Place, front}
 use Rattle.kp_jute.proofs.Combined.{ok_is}
-use Rattle.kp_model.specs.declared.node.Node.{Node}
-use Rattle.kp_model.specs.declared.session.Session.{Session}
 use Rattle.kp_model.specs.Path.{root}
-use Rattle.kp_model.specs.State.{State, path_cmp, empty, blank_node}
+use Rattle.kp_model.specs.State.{State, empty, blank_node}
 use Rattle.kp_model.specs.Poured.{started}
 use Rattle.kp_snapshot.specs.Rules.{Numbered, Placed, numbers_of}
 use Rattle.kp_snapshot.specs.Images.{Parts, parts, nodes}

@@ -4,8 +4,8 @@ use Rattle.std.specs.Int.{w32}
 use Rattle.std.specs.List.{flat_map}
 use Rattle.std.proofs.lemmas.List.{append-nil}
 use Rattle.std.proofs.lemmas.List.Concat.{flat_map-cons}
-use Rattle.kp_jute.specs.Form.{IsBytes, Takes, front, Lawful, Place, ◌>>=◌, Form}
-use Rattle.kp_jute.specs.Jute.{unsigned, unsigned_at, unsigned_ints}
+use Rattle.kp_jute.specs.Form.{IsBytes, Takes, front, Lawful, Place, Form}
+use Rattle.kp_jute.specs.Jute.{unsigned, unsigned_at}
 use Rattle.kp_jute.proofs.Combined.{bind_ok, ok_is, Takes-then}
 use Rattle.kp_jute.proofs.Numbers.{unsigned_ints_lawful}
 use Rattle.kp_snapshot.specs.Rows.{rows_at, AreRows, rows_in, rows}

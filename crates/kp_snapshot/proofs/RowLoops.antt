@@ -1,7 +1,7 @@
 -- Reading rows as a loop does: some of them are before, and the others are still to come.
-use Rattle.std.proofs.Common.{◌≡◌, ℕ, suc, ◌-◌, ◌+◌, ◌≤◌, ◌<◌, List, [], ◌∷◌, ◌++◌, Result, Ok, Err, refl, sym, ap, subst, ◌∙◌, arith}
+use Rattle.std.proofs.Common.{◌≡◌, ℕ, suc, ◌-◌, ◌+◌, ◌≤◌, ◌<◌, List, [], ◌∷◌, ◌++◌, Result, Ok, refl, sym, ◌∙◌, arith}
 use Rattle.kp_jute.specs.declared.fault.JuteFail.{JuteFail}
-use Rattle.kp_jute.specs.Form.{◌>>=◌, Fails, Place, Reading}
+use Rattle.kp_jute.specs.Form.{Fails, Place, Reading}
 use Rattle.kp_jute.proofs.Loops.{failed}
 use Rattle.kp_snapshot.specs.Rows.{rows_at}
 

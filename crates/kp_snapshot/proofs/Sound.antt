@@ -1,30 +1,28 @@
 -- What is spelled by an image is a sound state.
-use Rattle.std.proofs.Common.{◌≡◌, ℕ, zero, suc, ◌+◌, ◌≤◌, ◌<◌, Bool, true, false, cond, List, [], ◌∷◌, ◌++◌, length, map, Option, Some, None, refl, sym, ap, subst, ◌∙◌, append_assoc, arith}
+use Rattle.std.proofs.Common.{◌≡◌, ℕ, ◌≤◌, ◌<◌, Bool, true, false, cond, List, [], ◌∷◌, ◌++◌, length, Option, Some, None, refl, sym, ap, subst, ◌∙◌, append_assoc, arith}
 use Rattle.std.specs.Prelude.{◌&&◌, ◌||◌, ◌==◌, not, nat_le, nat_lt, is_some, IsTrue, IsSome}
 use Rattle.std.specs.List.{list_all, list_any, AllByRecursion}
 use Rattle.std.specs.Option.{option_map_or}
 use Rattle.std.specs.Str.{bytes_eq}
-use Rattle.std.specs.Cmp.{IsTotalOrder, nat_cmp_total, tied_itself, unsigned_tied}
+use Rattle.std.specs.Cmp.{tied_itself, unsigned_tied}
 use Rattle.std.specs.Cmp.Lexicographic.{nat_list_cmp_total}
 use Rattle.std.specs.Ordering.{nat_cmp, is_lt, is_eq, eq_by_cmp}
 use Rattle.std.specs.declared.cmp.Ordering.{Ordering}
 use Rattle.std.proofs.lemmas.Bool.{eqb-true}
 use Rattle.std.proofs.lemmas.Bool.Decides.{nat_tests}
 use Rattle.std.proofs.lemmas.List.{append-nil}
-use Rattle.std.proofs.lemmas.List.Folds.{list_any-append}
-use Rattle.std.proofs.lemmas.Slice.Eq.{bytes_eq-Decides}
 use Rattle.std.specs.FinMap as fin
 use Rattle.std.specs.FinMap.{FinMap, IsAntisymmetric, find, slice_cmp-IsAntisymmetric, nat_cmp-IsAntisymmetric}
 use Rattle.kp_model.specs.declared.node.Acl.{Acl}
 use Rattle.kp_model.specs.declared.node.Node.{Node}
 use Rattle.kp_model.specs.declared.session.Session.{Session}
 use Rattle.kp_model.specs.declared.session.Origin.{Origin}
-use Rattle.kp_model.specs.Good.{IsGood, IsSound, IsGoodSession, HasNumbers, HasPlace, HasOwner, HasRoot, HasDistinctHolders, has_perms}
+use Rattle.kp_model.specs.Good.{IsSound, IsGoodSession, HasNumbers, HasRoot, has_perms}
 use Rattle.kp_model.specs.Grammar.{is_number}
 use Rattle.kp_model.specs.Path.{root, parent, is_well_formed}
-use Rattle.kp_model.specs.State.{State, path_cmp, same_origin}
+use Rattle.kp_model.specs.State.{path_cmp, same_origin}
 use Rattle.kp_snapshot.specs.Rows.{AreRows}
-use Rattle.kp_snapshot.specs.Rules.{Numbered, Placed, numbers_of, holders_of, may_be_number, is_new_holder, is_open, may_be_path, may_own}
+use Rattle.kp_snapshot.specs.Rules.{Numbered, Placed, numbers_of, holders_of, is_open, may_be_path}
 use Rattle.kp_snapshot.specs.Images.{lines, session_behind, node_behind, sessions, nodes}
 use Rattle.kp_snapshot.specs.Snapshots.{Snapshot, images}
 use Rattle.kp_snapshot.proofs.Ordered.{left, right, both}

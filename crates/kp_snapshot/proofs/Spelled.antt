@@ -1,9 +1,8 @@
 -- Bytes that spell a snapshot stand for it.
-use Rattle.std.proofs.Common.{◌≡◌, ℕ, ◌+◌, List, [], ◌++◌, length, Ok, refl, sym, ap, subst, ◌∙◌}
+use Rattle.std.proofs.Common.{◌≡◌, ℕ, ◌+◌, List, [], length, Ok, refl, sym, ap, subst, ◌∙◌}
 use Rattle.std.proofs.lemmas.List.{append-nil}
-use Rattle.kp_jute.specs.Form.{Place, front}
-use Rattle.kp_entry.specs.Spellings.{read_or, Spells}
-use Rattle.kp_model.specs.State.{empty}
+use Rattle.kp_jute.specs.Form.{front}
+use Rattle.kp_entry.specs.Spellings.{Spells}
 use Rattle.kp_snapshot.specs.Snapshots.{Snapshot, images, snapshot_in}
 use Rattle.kp_snapshot.proofs.ImageLaws.{images_lawful}
 

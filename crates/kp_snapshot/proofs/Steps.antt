@@ -1,8 +1,8 @@
 -- Reading one field after another: what two parts give, and where the first fails.
-use Rattle.std.proofs.Common.{◌≡◌, ℕ, List, [], Bool, true, Result, Ok, Err, refl, sym, ap, subst, ◌∙◌}
+use Rattle.std.proofs.Common.{◌≡◌, ℕ, List, [], Ok, refl}
 use Rattle.std.specs.Int.{w32}
 use Rattle.kp_jute.specs.declared.fault.JuteFail.{JuteFail}
-use Rattle.kp_jute.specs.Form.{Fails, Form, Place, Reading, ◌>>=◌, ◌⊗◌, tagged}
+use Rattle.kp_jute.specs.Form.{Fails, Form, Place, Reading, ◌⊗◌, tagged}
 use Rattle.kp_jute.specs.Jute.{unsigned_at}
 use Rattle.kp_jute.proofs.Loops.{failed}
 use Rattle.kp_snapshot.specs.Rows.{rows_at, rows_in}

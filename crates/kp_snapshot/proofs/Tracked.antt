@@ -1,11 +1,10 @@
 -- What is kept of the nodes before, from one node to the next.
-use Rattle.std.proofs.Common.{◌≡◌, ℕ, suc, ◌≤◌, ◌<◌, Bool, true, false, cond, List, [], ◌∷◌, ◌++◌, length, take, Option, Some, None, refl, sym, ap, subst, ◌∙◌, arith}
+use Rattle.std.proofs.Common.{◌≡◌, ℕ, ◌<◌, Bool, true, false, cond, List, [], ◌∷◌, ◌++◌, length, take, Some, None, refl, sym, ap, ◌∙◌, arith}
 use Rattle.std.specs.Prelude.{◌&&◌, ◌==◌}
 use Rattle.std.specs.List.{list_all}
 use Rattle.std.specs.Option.{option_map_or}
-use Rattle.std.specs.Ordering.{nat_cmp, is_lt, is_eq, eq_by_cmp, ordering_reverse}
+use Rattle.std.specs.Ordering.{is_lt, is_eq, eq_by_cmp, ordering_reverse}
 use Rattle.std.specs.Cmp.Lexicographic.{nat_list_cmp_total}
-use Rattle.std.specs.Str.{bytes_eq}
 use Rattle.std.specs.declared.cmp.Ordering.{Ordering}
 use Rattle.std.specs.declared.cmp.Ordering.TheVariants.{Less, Equal, Greater}
 use Rattle.std.specs.FinMap.{find, slice_cmp-IsAntisymmetric, nat_cmp-IsAntisymmetric}
@@ -17,8 +16,8 @@ use Rattle.kp_model.specs.declared.node.Node.{Node}
 use Rattle.kp_model.specs.Path.{root, parent, is_well_formed, is_empty}
 use Rattle.kp_model.specs.State.{path_cmp}
 use Rattle.kp_snapshot.specs.Rules.{Placed, is_open, may_be_path}
-use Rattle.kp_snapshot.specs.Ups.{AreUps, NoneBehind, ChangedAt}
-use Rattle.kp_snapshot.specs.Knowing.{EndsAt, Tracks, Stand}
+use Rattle.kp_snapshot.specs.Ups.{ChangedAt}
+use Rattle.kp_snapshot.specs.Knowing.{EndsAt, Tracks}
 use Rattle.kp_snapshot.proofs.Ordered.{left, right, path_rises}
 
 pub less_of : (o : Ordering) → is_lt o ≡ true → o ≡ Less

@@ -1,11 +1,11 @@
 -- Bytes that are read to their end.
-use Rattle.std.proofs.Common.{◌≡◌, ℕ, ◌+◌, ◌==◌, Bool, true, false, cond, List, [], ◌∷◌, ◌++◌, length, Option, Some, None, Result, Ok, Err, refl, sym, ap, subst, ◌∙◌, arith}
+use Rattle.std.proofs.Common.{◌≡◌, ℕ, ◌==◌, List, [], ◌∷◌, ◌++◌, length, Some, Result, Ok, Err, refl, sym, ap, subst, ◌∙◌, arith}
 use Rattle.std.specs.Prelude.{IfOk}
 use Rattle.std.proofs.lemmas.List.{append-nil}
 use Rattle.std.proofs.lemmas.Bool.{eqb-true}
 use Rattle.kp_jute.specs.declared.fault.JuteFail.{JuteFail}
 use Rattle.kp_jute.specs.declared.fault.JuteFail.TheVariants as jute
-use Rattle.kp_jute.specs.Form.{Place, Form, IsBytes, Fails, front, ended, whole, place_of}
+use Rattle.kp_jute.specs.Form.{Place, IsBytes, Fails, front, ended, whole, place_of}
 use Rattle.kp_jute.proofs.Combined.{guard_in, ok_is}
 use Rattle.kp_snapshot.specs.declared.fail.ImageFail.{ImageFail}
 use Rattle.kp_snapshot.specs.declared.fail.ImageFail.TheVariants as fail

@@ -4,7 +4,6 @@ use Rattle.std.specs.List.{list_all, list_any}
 use Rattle.std.specs.Ordering.{is_lt}
 use Rattle.std.specs.HashSet.{HashSet, contains}
 use Rattle.kp_model.specs.declared.session.Origin.{Origin}
-use Rattle.kp_model.specs.declared.node.Node.{Node}
 use Rattle.kp_model.specs.State.{path_cmp, same_origin}
 use Rattle.kp_model.specs.Path.{is_empty}
 use Rattle.kp_jute.specs.declared.fault.JuteFail.{JuteFail}

@@ -1,6 +1,4 @@
 -- What was read of a node.
-use Rattle.std.specs.Prelude.{ℕ, List}
-use Rattle.kp_model.specs.declared.node.Acl.{Acl}
 use Rattle.kp_model.specs.declared.node.Meta.{Meta}
 use Rattle.kp_model.specs.Poured.{node_of}
 use Rattle.kp_snapshot.specs.declared.nodes.Body.{Body}

@@ -1,4 +1,3 @@
-use Rattle.std.proofs.Common.{arith}
 use Rattle.kp_snapshot.specs.Snapshots.{snapshot_of}
 use Rattle.kp_snapshot.proofs.Parts.{whole_of}
 use Rattle.kp_snapshot.proofs.check.check.Goals as goal

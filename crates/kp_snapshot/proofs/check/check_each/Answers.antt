@@ -1,4 +1,4 @@
-use Rattle.std.proofs.Common.{ℕ, ◌≡◌, ◌-◌, ap, refl, [], ◌++◌, ◌∷◌, ◌∙◌, arith, length, length-append}
+use Rattle.std.proofs.Common.{ℕ, ◌≡◌, ◌-◌, ap, refl, [], ◌++◌, ◌∷◌, arith, length-append}
 use Rattle.std.proofs.lemmas.Result.{err_from_is_err_and}
 use Rattle.kp_snapshot.specs.Rows.{rows_at}
 use Rattle.kp_snapshot.specs.Nodes.{placed_of}

@@ -1,4 +1,4 @@
-use Rattle.std.proofs.Common.{◌≡◌, ◌∙◌, ap, sym, ℕ, Err, List}
+use Rattle.std.proofs.Common.{◌∙◌, sym, Err}
 use Rattle.std.proofs.lemmas.Result.{err_from_is_err_and}
 use Rattle.kp_jute.specs.declared.fault.JuteFail.TheVariants.{BadByte}
 use Rattle.kp_snapshot.proofs.Placing.{nodes_ok, nodes_none, nodes_cut, nodes_fail}

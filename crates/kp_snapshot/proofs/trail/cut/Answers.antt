@@ -1,4 +1,4 @@
-use Rattle.std.proofs.Common.{List, ℕ, sym, subst, ◌≡◌}
+use Rattle.std.proofs.Common.{List, ℕ, sym, subst}
 use Rattle.kp_snapshot.specs.Ups.{AreUps, ArePartedAt, AreRising}
 use Rattle.kp_snapshot.proofs.Kept.{kept}
 use Rattle.kp_snapshot.proofs.trail.cut.Goals as goal

@@ -1,4 +1,4 @@
-use Rattle.std.proofs.Common.{sym, ap, ◌∙◌, ◌≤◌, ◌≡◌, subst, List, ℕ, length, take, arith}
+use Rattle.std.proofs.Common.{sym, ◌≤◌, ◌≡◌, subst, List, ℕ, length, take}
 use Rattle.kp_model.specs.Path as paths
 use Rattle.kp_snapshot.proofs.Parents.{parent_begins, in_root, some_is}
 use Rattle.kp_snapshot.proofs.trail.parent_len.Goals as goal

@@ -1,4 +1,4 @@
-use Rattle.std.proofs.Common.{sym, ap, subst, ◌∙◌}
+use Rattle.std.proofs.Common.{ap, subst, ◌∙◌}
 use Rattle.kp_snapshot.specs.Snapshots.{images}
 use Rattle.kp_snapshot.proofs.Spelled.{spelled_as, fits_as}
 use Rattle.kp_snapshot.proofs.image.Image.as_slice.Goals as goal

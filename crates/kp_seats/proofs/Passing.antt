@@ -1,10 +1,10 @@
 -- A walk over the connections, step by step.
-use Rattle.std.proofs.Common.{◌≡◌, ℕ, zero, suc, ◌+◌, ◌<◌, ◌≤◌, ◌⊎◌, inl, inr, Bool, true, false, cond, nat_eq, Option, Some, None, refl, ap, sym, subst, ◌∙◌, arith}
+use Rattle.std.proofs.Common.{◌≡◌, ℕ, zero, suc, ◌<◌, ◌≤◌, ◌⊎◌, inl, inr, Bool, true, false, cond, nat_eq, Option, Some, None, refl, ap, sym, subst, ◌∙◌, arith}
 use Rattle.std.specs.Cmp.{nat_eq_equiv}
 use Rattle.std.specs.FinMap as map
 use Rattle.std.proofs.lemmas.Bool.{eqb-true, cases_lt}
 use Rattle.kp_seats.specs.Seating.{Seating, holding, IsNext}
-use Rattle.kp_seats.specs.Walked.{Becomes, SameBeside, IsStep, IsPart, IsWalk}
+use Rattle.kp_seats.specs.Walked.{Becomes, IsStep, IsPart, IsWalk}
 use Rattle.kp_seats.proofs.Maps.{get-put}
 
 module _ {S : Type 0} (R : ℕ → S → S → Type 0) where

@@ -1,4 +1,4 @@
-use Rattle.std.proofs.Common.{sym, subst, ap, is_some, ◌∙◌}
+use Rattle.std.proofs.Common.{sym, subst, ap, is_some}
 use Rattle.kp_seats.specs.Walked.{IsStep}
 use Rattle.kp_seats.proofs.Passing.{stepped}
 use Rattle.kp_seats.proofs.walk.change_at.Goals as goal

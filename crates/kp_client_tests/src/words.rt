@@ -46,9 +46,7 @@ const ROWS: [Row; 16] = [
     ),
     (
         b"lgif",
-        Some(
-            "first_log_idx\t11\nlast_log_idx\t33\nlast_log_term\t7\nlast_committed_log_idx\t32\n",
-        ),
+        Some("first_log_idx\t11\nlast_log_idx\t33\nlast_log_term\t7\nlast_committed_log_idx\t32\n"),
     ),
     (b"csnp", Some("31")),
     // none of them
@@ -90,7 +88,11 @@ fn conns(alloc: Global) -> Result<Items<ConnFacts>, NoMemory> {
 }
 
 // A list of one session with its paths.
-fn of_session(alloc: Global, session: u64, texts: &[&str]) -> Result<Items<SessionPaths>, NoMemory> {
+fn of_session(
+    alloc: Global,
+    session: u64,
+    texts: &[&str],
+) -> Result<Items<SessionPaths>, NoMemory> {
     let mut all = Items::new(alloc);
     let paths = paths(alloc, texts)?;
     all.push(SessionPaths { session, paths })?;

@@ -42,12 +42,7 @@ fn is_operation(operation: &Operation, row: Row) -> bool {
                 acl,
             },
             Row::Create(at, data, kind),
-        ) => {
-            path.as_str() == at
-                && bytes.as_slice() == data
-                && *flags == kind
-                && acl.is_none()
-        }
+        ) => { path.as_str() == at && bytes.as_slice() == data && *flags == kind && acl.is_none() }
         (
             Operation::Set {
                 path,

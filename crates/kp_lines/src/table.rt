@@ -6,7 +6,9 @@ ghost use Rattle.kp_worker.specs.Outside.{HeardWithin, ended, is_there, opened, 
 ghost use Rattle.kp_lines.specs.Tables.{state_at};
 
 use crate::port::Port;
-use crate::slots::{Slot, end_slot, flow_slot, hand_slot, is_slot_ready, put_slot, remove_slot, take_slot};
+use crate::slots::{
+    Slot, end_slot, flow_slot, hand_slot, is_slot_ready, put_slot, remove_slot, take_slot,
+};
 use kp_worker::Heard;
 use std::alloc::Global;
 use std::collections::{HashMap, VecDeque};

@@ -47,18 +47,26 @@ raised_stands id ep k session s x seq found next st true true mine now =
     let old = subst (Stands s.next id ep k) (ap (map.get s.sessions) e ∙ found) st in
     let is = eqb-true ep x.epoch now in
     let counts = next ∙ ap (λ n. n + 1) (sym (old.1 is)) in
-    inr (ap (λ n. n ∷ []) counts,
-        set_stands s.next id ep (k + 1) s.sessions session (with_seq seq x)
-            (λ _. (old.0, λ _. sym counts, λ later. absurd (omega (arith, later, is))))
-            (λ other. absurd (true≢false (sym (unsigned_tied id session ∙ mine) ∙ other))))
+    inr (
+      ap (λ n. n ∷ []) counts,
+      set_stands s.next id ep (k + 1) s.sessions session (with_seq seq x)
+          (λ _. (old.0, λ _. sym counts, λ later. absurd (omega (arith, later, is))))
+          (λ other. absurd (true≢false (sym (unsigned_tied id session ∙ mine) ∙ other))),
+    )
 raised_stands id ep k session s x seq found next st true false mine now =
     let e = eqb-true id session mine in
     let old = subst (Stands s.next id ep k) (ap (map.get s.sessions) e ∙ found) st in
-    inl (refl, set_stands s.next id ep k s.sessions session (with_seq seq x)
-        (λ _. (old.0, λ is. absurd (true≢false (sym (true-eqb ep x.epoch is) ∙ now)), old.2)) (λ _. st))
+    inl (
+      refl,
+      set_stands s.next id ep k s.sessions session (with_seq seq x)
+          (λ _. (old.0, λ is. absurd (true≢false (sym (true-eqb ep x.epoch is) ∙ now)), old.2)) (λ _. st),
+    )
 raised_stands id ep k session s x seq found next st false b mine now =
-    inl (refl, set_stands s.next id ep k s.sessions session (with_seq seq x)
-        (λ e. absurd (true≢false (sym (true-eqb id session e) ∙ mine))) (λ _. st))
+    inl (
+      refl,
+      set_stands s.next id ep k s.sessions session (with_seq seq x)
+          (λ e. absurd (true≢false (sym (true-eqb id session e) ∙ mine))) (λ _. st),
+    )
 
 -- and the command changes nothing of it
 moved_on : (id ep k : ℕ) (l : List ℕ) (t : State) (session : ℕ) (ids : List (List ℕ)) (i time : ℕ) (c : Cmd) → Moves id ep k l t → Moves id ep k l (act t session ids i time c).state
@@ -85,11 +93,11 @@ written_moves id ep k (Some x) s i t session epoch seq c found st =
     chosen_moves id ep k _ (not next) _ _
     (λ late. inl (ap (λ b. number_if (id == session) (ep == epoch) b seq) (not_true next late) ∙ none_dead (id == session) (ep == epoch) seq, st))
     (λ yes. let two = both_true (epoch == x.epoch) (seq == x.seq + 1) (not_false next yes) in
-        let same = eqb-true epoch x.epoch two.0 in
-        subst (λ l. Moves id ep k l (act (record s { sessions = map.insert s.sessions session (with_seq seq x) }) session x.ids i t c).state)
-            (ap (λ n. number_if (id == session) (ep == n) true seq) (sym same) ∙ ap (λ b. number_if (id == session) (ep == epoch) b seq) (sym (not_false next yes)))
-            (moved_on id ep k _ (record s { sessions = map.insert s.sessions session (with_seq seq x) }) session x.ids i t c
-                (raised_stands id ep k session s x seq found (eqb-true seq (x.seq + 1) two.1) st (id == session) (ep == x.epoch) refl refl)))
+    let same = eqb-true epoch x.epoch two.0 in
+    subst (λ l. Moves id ep k l (act (record s { sessions = map.insert s.sessions session (with_seq seq x) }) session x.ids i t c).state)
+    (ap (λ n. number_if (id == session) (ep == n) true seq) (sym same) ∙ ap (λ b. number_if (id == session) (ep == epoch) b seq) (sym (not_false next yes)))
+    (moved_on id ep k _ (record s { sessions = map.insert s.sessions session (with_seq seq x) }) session x.ids i t c
+    (raised_stands id ep k session s x seq found (eqb-true seq (x.seq + 1) two.1) st (id == session) (ep == x.epoch) refl refl)))
 
 -- ---- an entry, and a list of them
 

@@ -102,7 +102,7 @@ multi_stands id ep k old s session ids i t answers events (o ∷ ops) was st =
     let done = act_on s session ids i t o in
     stop_stands id ep k (error_of done.reply) (λ code. replies old (failure (length answers) code (length ops))) _ (λ _. was)
     (multi_stands id ep k old done.state session ids i t (answers ++ op_reply done.reply ∷ []) (events ++ done.events) ops was
-        (same_stands id ep k s done.state (act_on_leaves s session ids i t o) st))
+    (same_stands id ep k s done.state (act_on_leaves s session ids i t o) st))
 
 pub chosen_stands : (id ep k : ℕ) (b : Bool) (x y : Outcome) → (b ≡ true → StandsIn id ep k x.state) → (b ≡ false → StandsIn id ep k y.state) → StandsIn id ep k (cond b x y).state
 chosen_stands id ep k true x y p q = p refl
@@ -161,8 +161,8 @@ pub opened_stands : (id ep k : ℕ) (s : State) (timeout : ℕ) (passwd : List �
 unfolding opened
 opened_stands id ep k s timeout passwd origin st = chosen_stands id ep k (is_held s.sessions origin || nat_le 4611686018427387904 s.next) _ _ (λ _. st)
     (λ _. set_stands (s.next + 1) id ep k s.sessions s.next (new_session timeout passwd origin)
-        (λ e. (omega (arith, e), λ _. first_stands id ep k s.next _ e st, λ _. first_stands id ep k s.next _ e st))
-        (λ _. later_next s.next id ep k _ st))
+    (λ e. (omega (arith, e), λ _. first_stands id ep k s.next _ e st, λ _. first_stands id ep k s.next _ e st))
+    (λ _. later_next s.next id ep k _ st))
 
 taken_over_stands : (next id ep k : ℕ) (origin : Origin) (x : Session) → Stands next id ep k (Some x) → Stands next id ep k (Some (taken_over origin x))
 taken_over_stands next id ep k origin x st = (st.0, λ e. st.2 (omega (arith, e)), λ l. st.2 (omega (arith, l)))
@@ -170,7 +170,7 @@ taken_over_stands next id ep k origin x st = (st.0, λ e. st.2 (omega (arith, e)
 joined_stands : (id ep k : ℕ) (x : Session) (s : State) (session : ℕ) (origin : Origin) → map.get s.sessions session ≡ Some x → StandsIn id ep k s → StandsIn id ep k (joined x s session origin).state
 joined_stands id ep k x s session origin found st = chosen_stands id ep k (is_held s.sessions origin || nat_le 4611686018427387904 x.epoch) _ _ (λ _. st)
     (λ _. set_stands s.next id ep k s.sessions session (taken_over origin x)
-        (λ e. taken_over_stands s.next id ep k origin x (subst (Stands s.next id ep k) (ap (map.get s.sessions) e ∙ found) st)) (λ _. st))
+    (λ e. taken_over_stands s.next id ep k origin x (subst (Stands s.next id ep k) (ap (map.get s.sessions) e ∙ found) st)) (λ _. st))
 
 pub attached_stands : (id ep k : ℕ) (o : Option Session) (s : State) (session : ℕ) (passwd : List ℕ) (origin : Origin) → map.get s.sessions session ≡ o
     → StandsIn id ep k s → StandsIn id ep k (attached_to o s session passwd origin).state

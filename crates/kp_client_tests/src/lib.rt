@@ -3,10 +3,14 @@
 #![tactic(auto)]
 
 #[cfg(test)]
+mod again;
+#[cfg(test)]
 mod connection;
 #[cfg(test)]
 mod cutting;
 #[cfg(test)]
 mod frames;
+#[cfg(test)]
+mod watches;
 #[cfg(test)]
 mod words;

@@ -9,7 +9,6 @@ use Rattle.kp_model.specs.Good.{IsSound}
 use Rattle.kp_model.specs.LogEntry.{LogEntry}
 use Rattle.kp_model.specs.State.{State, empty}
 use Rattle.kp_model.specs.Store.{after}
-use Rattle.kp_model.proofs.GoodEmpty.{empty_sound}
 use Rattle.kp_model.specs.Step.{apply}
 use Rattle.kp_model.proofs.GoodSteps.{apply_sound, after_sound}
 use Rattle.kp_plain.specs.Kept.{Keeps}

@@ -1,6 +1,7 @@
 pub mod SortedMap
-pub mod Placed
+pub mod Searched
 pub mod Shows
+pub mod Above
 pub mod Listing
 pub mod Replay
 pub mod Keeping

@@ -11,12 +11,13 @@ use Rattle.std.specs.FinMap.Entries.{where_key}
 use Rattle.kp_model.specs.declared.node.Meta.{Meta}
 use Rattle.kp_model.specs.declared.node.Node.{Node}
 use Rattle.kp_model.specs.declared.node.Seen.{Seen}
+use Rattle.kp_model.specs.Limits.{longest_field}
 use Rattle.kp_model.specs.Path.{root, parent, last_slash}
 use Rattle.kp_model.specs.State.{Nodes, path_cmp, children, is_child, meta_of, meta_at, stat, seen}
 use Rattle.kp_model.proofs.Maps.{no_value, same_value, each_inserted, each_removed}
 use Rattle.kp_cells.proofs.Maps.{tied}
 use Rattle.kp_cells.proofs.Paths.{path_total, path_same}
-use Rattle.kp_cells.proofs.Kids.{count-beside, count-without}
+use Rattle.kp_cells.proofs.Kids.{count-without}
 use Rattle.kp_act.proofs.Seen.{meta_some}
 use Rattle.kp_plain.specs.Beside.{NodeList, MetaList, as_map, child_count, with_shown, shown_again, both_again, AreOrdered, AreShown}
 use Rattle.kp_plain.proofs.SortedMap.{get_sorted, count_sorted, stays_sorted, put_sorted, stays_sorted_without, remove_sorted}
@@ -50,7 +51,7 @@ get_again nodes p metas o s q = cases (find path_cmp p nodes) refl where
       ∙ map.get-insert path_total (metas_of metas) p (meta_of (child_count nodes p) n) q
       ∙ on_key q p (eq_by_cmp path_cmp q p) refl (Some (meta_of (child_count nodes p) n)) (meta_at (as_map nodes) q) (map.get (metas_of metas) q) (λ same. ap Some (stat_counted nodes p n o.sorted) ∙ sym (now (Some n) e same))
 
-again_sorted : (nodes : NodeList) (p : List ℕ) (metas : MetaList) → IsTrue (map.is_sorted path_cmp metas) → IsTrue (map.is_sorted path_cmp (shown_again nodes p metas))
+pub again_sorted : (nodes : NodeList) (p : List ℕ) (metas : MetaList) → IsTrue (map.is_sorted path_cmp metas) → IsTrue (map.is_sorted path_cmp (shown_again nodes p metas))
 again_sorted nodes p metas s = cases (find path_cmp p nodes) where
   cases : (r : Option Node) → IsTrue (map.is_sorted path_cmp (with_shown nodes p r metas))
   cases None = stays_sorted_without path_total p metas s
@@ -82,25 +83,18 @@ same_shown old new q there count = cases (map.get old q) ∙ ap (option_map (sta
   cases None = refl
   cases (Some n) = ap (λ c. Some (meta_of c n)) (sym count)
 
-ordered_put : (nodes : NodeList) (p : List ℕ) (n : Node) → AreOrdered nodes → length n.bytes ≤ 4294967295 → AreOrdered (put path_cmp p n nodes)
+pub ordered_put : (nodes : NodeList) (p : List ℕ) (n : Node) → AreOrdered nodes → length n.bytes ≤ longest_field → AreOrdered (put path_cmp p n nodes)
 ordered_put nodes p n o fits = record {
   sorted = stays_sorted path_total p n nodes o.sorted;
-  fits = subst (λ (m : Nodes). (q : List ℕ) (x : Node) → map.get m q ≡ Some x → length x.bytes ≤ 4294967295) (sym (put_sorted path_total p n nodes o.sorted))
-      (each_inserted path_total path_same (λ q (x : Node). length x.bytes ≤ 4294967295) (as_map nodes) p n fits o.fits);
+  fits = subst (λ (m : Nodes). (q : List ℕ) (x : Node) → map.get m q ≡ Some x → length x.bytes ≤ longest_field) (sym (put_sorted path_total p n nodes o.sorted))
+      (each_inserted path_total path_same (λ q (x : Node). length x.bytes ≤ longest_field) (as_map nodes) p n fits o.fits);
 }
-
--- a node is set
-pub shows_put : (nodes : NodeList) (metas : MetaList) (p : List ℕ) (n : Node) → AreShown nodes metas → length n.bytes ≤ 4294967295 → AreShown (put path_cmp p n nodes) (both_again (put path_cmp p n nodes) p metas)
-shows_put nodes metas p n h fits = shows_both (put path_cmp p n nodes) p metas (ordered_put nodes p n h.ordered fits) h.sorted (λ q apart above.
-    h.shown q
-    ∙ same_shown (as_map nodes) (map.insert (as_map nodes) p n) q (map.get-insert path_total (as_map nodes) p n q ∙ ap (λ b. cond b (Some n) (map.get (as_map nodes) q)) apart) (count-beside (as_map nodes) p n q above)
-    ∙ ap (λ m. meta_at m q) (sym (put_sorted path_total p n nodes h.ordered.sorted)))
 
 ordered_without : (nodes : NodeList) (p : List ℕ) → AreOrdered nodes → AreOrdered (where_key path_cmp (λ q. not (eq_by_cmp path_cmp p q)) nodes)
 ordered_without nodes p o = record {
   sorted = stays_sorted_without path_total p nodes o.sorted;
-  fits = subst (λ (m : Nodes). (q : List ℕ) (x : Node) → map.get m q ≡ Some x → length x.bytes ≤ 4294967295) (sym (remove_sorted path_total path_same p nodes o.sorted))
-      (each_removed path_total path_same (λ q (x : Node). length x.bytes ≤ 4294967295) (as_map nodes) p o.fits);
+  fits = subst (λ (m : Nodes). (q : List ℕ) (x : Node) → map.get m q ≡ Some x → length x.bytes ≤ longest_field) (sym (remove_sorted path_total path_same p nodes o.sorted))
+      (each_removed path_total path_same (λ q (x : Node). length x.bytes ≤ longest_field) (as_map nodes) p o.fits);
 }
 
 -- a node is taken away
@@ -120,20 +114,6 @@ shows_none = record {
   shown = λ q. get_sorted path_cmp [] q refl ∙ sym (ap (option_map (stat (as_map []) q)) (get_sorted path_cmp [] q refl));
 }
 
--- the nodes after one is set
-pub put_ordered : (nodes new : NodeList) (k : List ℕ) (n : Node) → AreOrdered nodes → length n.bytes ≤ 4294967295 → new ≡ put path_cmp k n nodes → AreOrdered new
-put_ordered nodes new k n o fits same = subst AreOrdered (sym same) (ordered_put nodes k n o fits)
-
-pub put_shown : (nodes new slice : NodeList) (metas shown : MetaList) (k p : List ℕ) (n : Node) → AreShown nodes metas → length n.bytes ≤ 4294967295 → k ≡ p → new ≡ put path_cmp k n nodes → slice ≡ new → shown ≡ both_again slice p metas → AreShown new shown
-put_shown nodes new slice metas shown k p n h fits key same all again =
-    let set : new ≡ put path_cmp p n nodes = same ∙ ap (λ x. put path_cmp x n nodes) key in
-    subst (λ xs. AreShown xs shown) (sym set) (
-    subst (AreShown (put path_cmp p n nodes)) (sym (again ∙ ap (λ xs. both_again xs p metas) (all ∙ set))) (shows_put nodes metas p n h fits))
-
-pub put_is : (nodes new : NodeList) (m : Nodes) (k p : List ℕ) (n : Node) → IsTrue (map.is_sorted path_cmp nodes) → as_map nodes ≡ m → k ≡ p → new ≡ put path_cmp k n nodes → as_map new ≡ map.insert m p n
-put_is nodes new m k p n sorted view key same =
-    ap as_map (same ∙ ap (λ x. put path_cmp x n nodes) key) ∙ put_sorted path_total p n nodes sorted ∙ ap (λ z. map.insert z p n) view
-
 -- the nodes without one
 abbrev pub others : List ℕ → NodeList → NodeList
 others p nodes = where_key path_cmp (λ q. not (eq_by_cmp path_cmp p q)) nodes
@@ -152,7 +132,7 @@ gone_is nodes new m k p sorted view key same =
     ap as_map (same ∙ ap (λ x. others x nodes) key) ∙ remove_sorted path_total path_same p nodes sorted ∙ ap (λ z. map.remove z p) view
 
 -- the data of a node that is found fits
-pub found_fits : (nodes : NodeList) (p : List ℕ) (n : Node) → AreOrdered nodes → Some n ≡ find path_cmp p nodes → length n.bytes ≤ 4294967295
+pub found_fits : (nodes : NodeList) (p : List ℕ) (n : Node) → AreOrdered nodes → Some n ≡ find path_cmp p nodes → length n.bytes ≤ longest_field
 found_fits nodes p n o found = o.fits p n (get_sorted path_cmp nodes p o.sorted ∙ sym found)
 
 -- the root is its own parent

@@ -50,6 +50,10 @@ module _ {K X : Type 0} (R : K → K → Ordering) where
   pub keys_sorted : (es : List (K × X)) → IsTrue (is_sorted R es) → fin.keys (from_sorted {R = R} es) ≡ map (λ (e : K × X). e.0) es
   keys_sorted es h = ap (map (λ (e : K × X). e.0)) (entries-from_sorted R es (to_T _ h))
 
+  -- how many entries
+  pub len_sorted : (es : List (K × X)) → IsTrue (is_sorted R es) → fin.len (from_sorted {R = R} es) ≡ length es
+  len_sorted es h = len-entries _ ∙ ap length (entries-from_sorted R es (to_T _ h))
+
   pub get_sorted : (es : List (K × X)) (q : K) → IsTrue (is_sorted R es) → fin.get (from_sorted {R = R} es) q ≡ find R q es
   get_sorted es q h = get-from_sorted R es q (to_T _ h)
 

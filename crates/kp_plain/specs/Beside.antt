@@ -1,13 +1,16 @@
 -- What is shown of each node, beside the nodes.
-use Rattle.std.specs.Prelude.{◌≡◌, ℕ, ◌≤◌, not, count_by, List, length, Option, Some, None, IsTrue}
+use Rattle.std.specs.Prelude.{◌≡◌, ℕ, ◌≤◌, not, ◌||◌, count_by, List, length, Option, Some, None, is_some, if◌then◌else◌, IsTrue}
+use Rattle.std.specs.Str.{bytes_eq}
 use Rattle.std.specs.Ordering.{eq_by_cmp}
 use Rattle.std.specs.FinMap as map
 use Rattle.std.specs.FinMap.{find, put}
 use Rattle.std.specs.FinMap.Entries.{where_key}
 use Rattle.kp_model.specs.declared.node.Meta.{Meta}
 use Rattle.kp_model.specs.declared.node.Node.{Node}
-use Rattle.kp_model.specs.Path.{parent}
+use Rattle.kp_model.specs.Limits.{longest_field}
+use Rattle.kp_model.specs.Path.{root, parent}
 use Rattle.kp_model.specs.State.{Nodes, path_cmp, is_child, meta_of, meta_at}
+use Rattle.kp_cells.specs.Pouring.{one_more}
 
 -- nodes with their paths, and what is shown with its paths
 abbrev pub NodeList : Type 0
@@ -37,10 +40,19 @@ shown_again nodes p metas = with_shown nodes p (find path_cmp p nodes) metas
 abbrev pub both_again : NodeList → List ℕ → MetaList → MetaList
 both_again nodes p metas = shown_again nodes (parent p) (shown_again nodes p metas)
 
+-- one child more is shown of a path, where a node is there
+abbrev pub raised_at : List ℕ → Option Meta → MetaList → MetaList
+raised_at q None metas = metas
+raised_at q (Some u) metas = put path_cmp q (one_more u) metas
+
+-- one child more is shown of a path's parent, where the path is new and has one
+abbrev pub raised_parent : List ℕ → MetaList → MetaList
+raised_parent p metas = if is_some (find path_cmp p metas) || bytes_eq p root then metas else raised_at (parent p) (find path_cmp (parent p) metas) metas
+
 -- nodes in the order of their paths, with data that fits its length field
 pub record AreOrdered (nodes : NodeList) : Type 0 where
   pub sorted : IsTrue (map.is_sorted path_cmp nodes)
-  pub fits : (q : List ℕ) (n : Node) → map.get (as_map nodes) q ≡ Some n → length n.bytes ≤ 4294967295
+  pub fits : (q : List ℕ) (n : Node) → map.get (as_map nodes) q ≡ Some n → length n.bytes ≤ longest_field
 
 -- such nodes, and what is shown of each path in the same order
 pub record AreShown (nodes : NodeList) (metas : MetaList) : Type 0 where

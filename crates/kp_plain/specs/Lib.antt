@@ -3,3 +3,4 @@ pub mod Beside
 pub mod Picked
 pub mod Outcomes
 pub mod Kept
+pub mod Counted

@@ -4,10 +4,11 @@
 
 mod nodes;
 mod pick;
+mod pour;
 mod sessions;
 mod shown;
 mod sorted;
 mod store;
 mod tree;
 
-pub use store::PlainStore;
+pub use store::{Counts, PlainStore};

@@ -1,14 +1,15 @@
-ghost use Rattle.std.specs.Prelude.{◌≡◌, ◌≤◌, ◌++◌, ℕ, List, [], ◌∷◌, cond, map as each, length, IfOk, OnOk};
+ghost use Rattle.std.specs.Prelude.{◌≡◌, ◌≤◌, ◌++◌, ℕ, List, [], ◌∷◌, cond, map as each, length, min, IfOk, OnOk, OnErr};
 ghost use Rattle.std.specs.List.{filter};
 ghost use Rattle.std.specs.Option.{option_copied};
 ghost use Rattle.std.specs.FinMap as map;
 ghost use Rattle.kp_model.specs.declared.node.Node.{Node as PathNode};
-ghost use Rattle.kp_model.specs.State.{meta_at, is_owned as owned};
+ghost use Rattle.kp_model.specs.Limits.{last_count, longest_field};
+ghost use Rattle.kp_model.specs.State.{meta_at, children, is_owned as owned};
 ghost use Rattle.kp_plain.specs.Picked.{picks};
 
 use crate::pick::Pick;
-use crate::shown::{is_child, show_both};
-use crate::sorted::{find_path, put_in, remove_from};
+use crate::shown::{is_child, kids_of_new, show_both, show_put};
+use crate::sorted::{find_path, put_reserved, remove_from};
 use kp_model::{Meta, NoMemory, Node, Paths, Text};
 use std::alloc::Global;
 use std::marker::Model;
@@ -62,18 +63,31 @@ impl Nodes {
         find_path(self.metas.as_slice(), path)
     }
 
-    /// The nodes with the one of a path set.
-    pub fn with(self, alloc: Global, path: &str, node: Node) -> Result<Nodes, NoMemory>
-        requires { length node.bytes ≤ 4294967295 }
-        ensures { IfOk result (λ nodes. nodes ≡ map.insert self path.now node) }
+    // How many children are shown of a path, whether it has a node or not.
+    fn kids_of(&self, path: &str) -> u32
+        ensures { result ≡ min (length (children self.now path.now)) last_count }
     {
-        let Nodes {
-            mut items,
-            mut metas,
-        } = self;
-        put_in(&mut items, Text::from_str(alloc, path)?, node)?;
-        show_both(alloc, items.as_slice(), &mut metas, path)?;
-        Ok(Nodes { items, metas })
+        match self.meta(path) {
+            Some(meta) => meta.kids,
+            None => kids_of_new(self.items.as_slice(), path),
+        }
+    }
+
+    /// Sets the node of a path. After an error nothing has changed. Costs a binary search and what it moves; and a
+    /// look at all paths, where the path is new and not behind them.
+    pub fn put(&mut self, alloc: Global, path: &str, node: Node) -> Result<(), NoMemory>
+        requires { length node.bytes ≤ longest_field }
+        ensures ok { OnOk result (self.new ≡ map.insert self.old path.now node) }
+        ensures err { OnErr result (self.new ≡ self.old) }
+    {
+        let key = Text::from_str(alloc, path)?;
+        let shown_key = Text::from_str(alloc, path)?;
+        self.items.reserve(1)?;
+        self.metas.reserve(1)?;
+        let kids = self.kids_of(path);
+        show_put(&mut self.metas, shown_key, &node, kids);
+        put_reserved(&mut self.items, key, node);
+        Ok(())
     }
 
     /// The nodes without the one of a path, where there is one.
@@ -87,6 +101,13 @@ impl Nodes {
         remove_from(&mut items, &Text::from_str(alloc, path)?);
         show_both(alloc, items.as_slice(), &mut metas, path)?;
         Ok(Nodes { items, metas })
+    }
+
+    /// How many nodes there are.
+    pub fn len(&self) -> u64
+        ensures { result ≡ map.len self.now }
+    {
+        self.items.as_slice().len() as u64
     }
 
     /// The paths that are picked, ascending.

@@ -67,6 +67,13 @@ impl Sessions {
         remove_from(&mut self.items, &number);
     }
 
+    /// How many sessions there are.
+    pub fn len(&self) -> u64
+        ensures { result ≡ map.len self.now }
+    {
+        self.items.as_slice().len() as u64
+    }
+
     /// The numbers of the sessions, ascending.
     pub fn numbers(&self, alloc: Global) -> Result<Vec<u64>, NoMemory>
         ensures { IfOk result (λ numbers. numbers.items ≡ map.keys self.now) }

@@ -6,6 +6,7 @@ ghost use Rattle.kp_model.specs.Grammar.{is_entry, IsEntry};
 ghost use Rattle.kp_model.specs.State.{seen as seen_of};
 ghost use Rattle.kp_model.specs.Step.{apply, Outcome};
 ghost use Rattle.kp_model.specs.Store.{after, latest, last as last_of, empty, with_entry, kept as kept_of, outcome_in, truncated, commit_answer, commit_leaves};
+ghost use Rattle.kp_plain.specs.Counted.{counts_of};
 
 use crate::tree::Tree;
 use kp_model::{Committed, Entry, NoMemory, Reply, Seen, Session, View};
@@ -16,7 +17,8 @@ use std::marker::Model;
 /// The committed state, and the entries that aren't applied yet. The uncommitted state is the replay of
 /// these entries on the committed state, and each question about it replays them.
 ///
-/// No call but `new`, `preprocess`, `commit`, `kept`, `peek`, `see` and `who` takes memory. Where one of
+/// No call but `new`, `preprocess`, `commit`, `kept`, `peek`, `see`, `who` and `counts` takes memory, and those of
+/// `Fill` that pour a session or a node in. Where one of
 /// these finds none, it answers `NoMemory`, and the store is as it was.
 ///
 /// The calls that apply entries have the condition that the committed state is sound. That of a new
@@ -24,9 +26,22 @@ use std::marker::Model;
 /// piece by piece.
 #[derive(Drop)]
 pub struct PlainStore {
-    alloc: Global,
-    state: Tree,
+    pub(crate) alloc: Global,
+    pub(crate) state: Tree,
     unapplied: Vec<Entry>,
+}
+
+/// How many nodes and sessions a store has.
+#[derive(Clone, Copy)]
+pub struct Counts {
+    /// Nodes of the committed state.
+    pub nodes: u64,
+    /// Sessions of the committed state.
+    pub sessions: u64,
+    /// Nodes of the uncommitted state.
+    pub all_nodes: u64,
+    /// Sessions of the uncommitted state.
+    pub all_sessions: u64,
 }
 
 impl Model for PlainStore {
@@ -236,5 +251,22 @@ impl PlainStore {
             None => Ok(None),
             Some(found) => Ok(Some(found.copy(self.alloc)?)),
         }
+    }
+
+    /// How many nodes and sessions the committed state has, and how many the uncommitted one.
+    pub fn counts(&self) -> Result<Counts, NoMemory>
+        requires sound { IsSound self.now.state }
+        ensures { IfOk result (λ counts. counts ≡ counts_of self.now.state (latest self.now)) }
+    {
+        let tree = replayed(self.alloc, &self.state, self.unapplied.as_slice())?;
+        let (nodes, sessions) = self.state.counts();
+        let (all_nodes, all_sessions) = tree.counts();
+        drop(tree);
+        Ok(Counts {
+            nodes,
+            sessions,
+            all_nodes,
+            all_sessions,
+        })
     }
 }

@@ -1,17 +1,19 @@
-ghost use Rattle.std.specs.Prelude.{◌≡◌, ◌<◌, ◌^◌, map as each, IsTrue, IfOk};
+ghost use Rattle.std.specs.Prelude.{◌≡◌, ◌<◌, ◌≤◌, ◌^◌, length, map as each, IsTrue, IfOk, OnOk, OnErr};
+ghost use Rattle.kp_model.specs.Limits.{longest_field};
 ghost use Rattle.std.specs.List.{list_all};
 ghost use Rattle.std.specs.Option.{option_copied};
 ghost use Rattle.std.specs.FinMap as map;
 ghost use Rattle.kp_model.specs.Good.{IsSound};
-ghost use Rattle.kp_model.specs.Path.{name};
+ghost use Rattle.kp_model.specs.Path.{name, root};
 ghost use Rattle.kp_model.specs.Poured as poured;
 ghost use Rattle.kp_model.specs.State.{empty, blank_node, seen as seen_of};
 ghost use Rattle.kp_model.specs.Step as step;
 ghost use Rattle.kp_prep.specs.Changing.{node_set, session_set, set_one, set_all, fits_value, fits_change};
-ghost use Rattle.kp_plain.specs.Outcomes.{outcome};
+ghost use Rattle.kp_plain.specs.Outcomes.{outcome, nodes_set};
 
 use crate::nodes::Nodes;
 use crate::pick::Pick;
+use crate::pour::node_of;
 use crate::sessions::Sessions;
 use kp_cells::{Change, NodeValue};
 use kp_model::{
@@ -130,24 +132,39 @@ fn blank_root(alloc: Global) -> Result<Node, NoMemory>
     })
 }
 
-// The node that a value stands for, with memory of its own.
-fn node_of(alloc: Global, value: &NodeValue) -> Result<Node, NoMemory>
-    ensures { IfOk result (λ node. node ≡ poured.node_of value.now.bytes value.now.acl value.now.meta) }
+// The nodes with the one of a path set, or without it.
+fn with_value(
+    alloc: Global,
+    mut nodes: Nodes,
+    path: &str,
+    value: &Option<NodeValue>,
+) -> Result<Nodes, NoMemory>
+    requires { IsTrue (fits_value value.now) }
+    ensures { IfOk result (λ made. made ≡ nodes_set nodes path.now value.now) }
 {
-    Ok(Node {
-        bytes: value.bytes.copy(alloc)?,
-        acl: value.acl.copy(alloc)?,
-        czxid: value.meta.czxid,
-        mzxid: value.meta.mzxid,
-        pzxid: value.meta.pzxid,
-        ctime: value.meta.ctime,
-        mtime: value.meta.mtime,
-        version: value.meta.version,
-        cversion: value.meta.cversion,
-        aversion: value.meta.aversion,
-        owner: value.meta.owner,
-        created: value.meta.created,
-    })
+    match value {
+        None => nodes.without(alloc, path),
+        Some(value) => {
+            let node = node_of(
+                alloc,
+                value.bytes.as_slice(),
+                value.acl.as_slice(),
+                &value.meta,
+            )?;
+            nodes.put(alloc, path, node)?;
+            Ok(nodes)
+        }
+    }
+}
+
+// The root of the empty tree alone.
+fn root_alone(alloc: Global) -> Result<Nodes, NoMemory>
+    ensures { IfOk result (λ nodes. nodes ≡ map.insert map.empty root blank_node) }
+{
+    let root = blank_root(alloc)?;
+    let mut nodes = Nodes::new(alloc);
+    nodes.put(alloc, "/", root)?;
+    Ok(nodes)
 }
 
 impl Tree {
@@ -157,7 +174,7 @@ impl Tree {
         ensures { IfOk result (λ t. t ≡ empty) }
     {
         Ok(Tree {
-            nodes: Nodes::new(alloc).with(alloc, "/", blank_root(alloc)?)?,
+            nodes: root_alone(alloc)?,
             sessions: Sessions::new(alloc),
             next: 1,
             applied: 0,
@@ -215,10 +232,7 @@ impl Tree {
             next,
             applied,
         } = self;
-        let nodes = match value {
-            None => nodes.without(alloc, path)?,
-            Some(value) => nodes.with(alloc, path, node_of(alloc, value)?)?,
-        };
+        let nodes = with_value(alloc, nodes, path, value)?;
         Ok(Tree {
             nodes,
             sessions,
@@ -281,5 +295,39 @@ impl Tree {
         let mut tree = self.changed(alloc, changes.as_slice())?;
         tree.applied = index;
         Ok((tree, prepared))
+    }
+
+    /// Sets the applied index and the next session number.
+    pub fn start(&mut self, applied: u64, next_session: u64)
+        ensures { self.new ≡ poured.started self.old applied next_session }
+    {
+        self.applied = applied;
+        self.next = next_session;
+    }
+
+    /// Sets a session. After an error nothing has changed.
+    pub fn put_session(&mut self, alloc: Global, id: u64, session: &Session) -> Result<(), NoMemory>
+        ensures ok { OnOk result (self.new ≡ poured.with_session self.old id session.now) }
+        ensures err { OnErr result (self.new ≡ self.old) }
+    {
+        let copy = session.copy(alloc)?;
+        self.sessions.put(id, copy)
+    }
+
+    /// Sets a node. After an error nothing has changed.
+    pub fn put_node(&mut self, alloc: Global, path: &str, node: Node) -> Result<(), NoMemory>
+        requires { length node.bytes ≤ longest_field }
+        ensures ok { OnOk result (self.new ≡ poured.with_node self.old path.now node) }
+        ensures err { OnErr result (self.new ≡ self.old) }
+    {
+        self.nodes.put(alloc, path, node)
+    }
+
+    /// How many nodes and how many sessions there are.
+    pub fn counts(&self) -> (u64, u64)
+        ensures nodes { result.0 ≡ map.len self.now.nodes }
+        ensures sessions { result.1 ≡ map.len self.now.sessions }
+    {
+        (self.nodes.len(), self.sessions.len())
     }
 }

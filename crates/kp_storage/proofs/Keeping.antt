@@ -1,5 +1,5 @@
 -- What a storage keeps, through its calls.
-use Rattle.std.proofs.Common.{◌≡◌, ℕ, zero, suc, ◌+◌, ◌-◌, ◌<◌, ◌≤◌, ◌⊎◌, inl, inr, ⊎_elim, List, [], ◌∷◌, ◌++◌, length, take, drop, refl, sym, ap, subst, ◌∙◌, arith, length-append, length-take-le, take-take, take_all}
+use Rattle.std.proofs.Common.{◌≡◌, ℕ, zero, suc, ◌+◌, ◌-◌, ◌<◌, ◌≤◌, ◌⊎◌, inl, inr, ⊎_elim, List, [], ◌∷◌, ◌++◌, length, take, drop, refl, sym, ap, subst, ◌∙◌, arith, length-append, length-take-le, take-take, take_all, leb-true}
 use Rattle.std.proofs.lemmas.List.{take-append-le}
 use Rattle.std.specs.List.{All}
 use Rattle.std.proofs.lemmas.List.Elements.{All-append, All-take, All-drop}
@@ -15,14 +15,14 @@ use Rattle.kp_model.proofs.Applied.{applied-apply, applied-after}
 use Rattle.kp_model.proofs.GoodEmpty.{empty_sound}
 use Rattle.kp_model.proofs.GoodSteps.{apply_sound, after_sound}
 use Rattle.kp_cells.specs.Parts.{parts_of, whole, FitTogether}
-use Rattle.kp_cells.specs.Overlays.{Overlays, depth, committed_parts, latest_parts, committed_state, latest_state, parts_under, applied_after, root_parts, settled, all_begun, all_sealed, all_committed, all_dropped}
+use Rattle.kp_cells.specs.Overlays.{Overlays, depth, committed_parts, latest_parts, committed_state, latest_state, parts_under, applied_after, IsSettled, all_begun, all_sealed, all_committed, all_dropped}
 use Rattle.kp_storage.specs.Kept.{answers_of, IsLayered, Keeps, store}
 use Rattle.kp_model.specs.Touched.{touched}
 use Rattle.kp_prep.specs.Touching.{AreWithin, staged_keys}
 use Rattle.kp_storage.proofs.LayerKeys.{touches_none, touches_front, touches_back, touches_more}
 use Rattle.kp_storage.proofs.Replay.{after_append, answers_append, answers_take, length-answers}
 use Rattle.kp_cells.proofs.Whole.{whole_is, fit_together}
-use Rattle.kp_cells.proofs.Root.{parts_empty}
+use Rattle.kp_cells.proofs.Settled.{settled_parts}
 use Rattle.kp_storage.proofs.Parts.{parts_front, parts_back, front_layered, back_layered, parts_latest, parts_begun, sealed_layered, parts_sealed, parts_last}
 
 -- the applied index
@@ -30,21 +30,14 @@ pub applied_is : (o : Overlays) → (committed_state o).applied ≡ o.applied
 unfolding whole
 applied_is o = refl
 
--- without layers
-pub settled_is : committed_state (settled 0 root_parts) ≡ empty
-unfolding empty
-settled_is = whole_is empty 0 (committed_parts (settled 0 root_parts)) (parts_empty _ refl) refl
-
-pub store_none : store (settled 0 root_parts) [] ≡ record { state = empty; unapplied = [] }
-store_none = ap (λ (x : State). let y : Store = record { state = x; unapplied = [] } in y) settled_is
-
-pub keeps_none : Keeps (settled 0 root_parts) [] []
-unfolding after answers_of
-keeps_none = record {
-  sound = subst IsSound (sym settled_is) empty_sound;
-  room = omega arith;
+-- over a sound state, with no layer and no entry
+pub keeps_none : (o : Overlays) → IsSettled o → IsSound (committed_state o) → Keeps o [] []
+unfolding after answers_of whole
+keeps_none o h sound = record {
+  sound = sound;
+  room = let most : o.applied ≤ 4611686018427387904 = leb-true o.applied 4611686018427387904 sound.good.applied in omega (arith, most);
   taken = λ k d lt. absurd (omega (arith, lt));
-  layered = record {
+  layered = subst (IsLayered 0) (sym h) (record {
     metas = record { sealed = refl; closed = refl };
     contents = record { sealed = refl; closed = refl };
     acls = record { sealed = refl; closed = refl };
@@ -52,11 +45,15 @@ keeps_none = record {
     owners = record { sealed = refl; closed = refl };
     sessions = record { sealed = refl; closed = refl };
     next = record { sealed = refl; closed = refl };
-  };
-  stands = λ k le. let none : k ≡ 0 = omega (arith, le) in subst (λ n. parts_under n (settled 0 root_parts) ≡ parts_of (after (committed_state (settled 0 root_parts)) (take n []))) (sym none) (parts_empty _ refl ∙ ap parts_of (sym settled_is));
-  touches = touches_none (settled 0 root_parts);
+  });
+  stands = λ k le. let none : k ≡ 0 = omega (arith, le) in subst (λ n. parts_under n o ≡ parts_of (after (committed_state o) (take n []))) (sym none) (settled_parts o h);
+  touches = touches_none o;
   answered = refl;
 }
+
+-- the empty state is sound
+pub sound_empty : (s : State) → s ≡ empty → IsSound s
+sound_empty s e = subst IsSound (sym e) empty_sound
 
 -- the same under other names
 pub keeps_as : (o p : Overlays) (es fs : List LogEntry) (cs ds : List Committed) → p ≡ o → fs ≡ es → ds ≡ cs → Keeps o es cs → Keeps p fs ds

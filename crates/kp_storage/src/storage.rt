@@ -1,4 +1,4 @@
-ghost use Rattle.std.specs.Prelude.{◌≡◌, ◌==◌, not, ℕ, ◌<◌, ◌≤◌, ◌^◌, ◌-◌, IsTrue, length, take, slice_get, Some, IfOk, OnOk, OnErr};
+ghost use Rattle.std.specs.Prelude.{◌≡◌, ◌==◌, not, ℕ, ◌<◌, ◌≤◌, ◌^◌, ◌-◌, [], IsTrue, length, take, slice_get, Some, IfOk, OnOk, OnErr};
 ghost use Rattle.std.specs.Option.{option_copied};
 ghost use Rattle.std.specs.FinMap as map;
 ghost use Rattle.kp_model.specs.Good.{IsSound};
@@ -10,7 +10,7 @@ ghost use Rattle.kp_model.specs.Touched.{touched};
 ghost use Rattle.kp_model.specs.Store.{after, latest as latest_of, last as last_of, empty, with_entry, kept as kept_of, truncated, commit_answer, commit_leaves};
 ghost use Rattle.kp_cells.specs.Mapped.{kept as those};
 ghost use Rattle.kp_cells.specs.Parts.{parts_of, FitTogether};
-ghost use Rattle.kp_cells.specs.Overlays.{IsClosed, depth, committed_parts, latest_parts, committed_state, latest_state};
+ghost use Rattle.kp_cells.specs.Overlays.{IsClosed, IsSettled, depth, committed_parts, latest_parts, committed_state, latest_state};
 ghost use Rattle.kp_prep.specs.Touching.{AreWithin, layer_keys};
 ghost use Rattle.kp_storage.specs.Kept.{IsLayered};
 
@@ -66,12 +66,21 @@ impl Storage {
     pub fn new(alloc: Global) -> Result<Storage, NoMemory>
         ensures { IfOk result (λ x. x ≡ empty) }
     {
-        Ok(Storage {
+        Ok(Storage::of_cells(alloc, Cells::new(alloc)?))
+    }
+
+    // A storage over these cells, with no entry that isn't applied.
+    pub(crate) fn of_cells(alloc: Global, cells: Cells) -> Storage
+        requires settled { IsSettled cells }
+        requires sound { IsSound (committed_state cells) }
+        ensures { result ≡ record { state = committed_state cells; unapplied = [] } }
+    {
+        Storage {
             alloc,
-            cells: Cells::new(alloc)?,
+            cells,
             entries: VecDeque::new(alloc),
             answers: VecDeque::new(alloc),
-        })
+        }
     }
 
     /// The index of the last entry that is committed.

@@ -1,10 +1,11 @@
-use Rattle.std.proofs.Common.{◌∙◌}
-use Rattle.kp_storage.specs.Kept.{store}
-use Rattle.kp_storage.proofs.Keeping.{keeps_none, store_none}
+use Rattle.std.proofs.Common.{◌≡◌, [], ap, ◌∙◌}
+use Rattle.kp_model.specs.State.{State}
+use Rattle.kp_model.specs.Store.{Store}
+use Rattle.kp_storage.proofs.Keeping.{sound_empty}
 use Rattle.kp_storage.proofs.storage.Storage.new.Goals as goal
 
-pub invariant_of-result : goal.invariant_of-result
-invariant_of-result c = rw (c.in_ok-new.ensures.value, c.new-2.ensures.items, c.new-3.ensures.items) keeps_none
+pub of_cells-requires-clause-sound : goal.of_cells-requires-clause-sound
+of_cells-requires-clause-sound c = sound_empty _ c.in_ok-new.ensures.empty
 
 pub returns : goal.returns
-returns c = (λ i. store (c.in_ok-new.ensures.value i) (c.new-2.ensures.items i)) ∙ store_none
+returns c = c.of_cells.ensures ∙ ap (λ (x : State). let y : Store = record { state = x; unapplied = [] } in y) c.in_ok-new.ensures.empty

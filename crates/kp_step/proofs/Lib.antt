@@ -11,4 +11,5 @@ pub mod Turning
 pub mod Runs
 pub mod Rows
 pub mod Causes
+pub mod Unknown
 pub mod Lawful

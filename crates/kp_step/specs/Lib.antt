@@ -11,3 +11,4 @@ pub mod Step
 pub mod Runs
 pub mod Rows
 pub mod Causes
+pub mod Unknown

@@ -2,6 +2,7 @@
 
 ghost use Rattle.kp_step.specs.Runs.{RepliesAreInOrder, AnswersAreOfOneState, StatesAreReplays, ConnectionsRest};
 ghost use Rattle.kp_step.specs.Causes.{RefusalsAreCaused};
+ghost use Rattle.kp_step.specs.Unknown.{UnknownIsUnimplemented};
 ghost use Rattle.kp_step.specs.Rows.{StepsSay, AnswersFit};
 
 /// In every run, whatever its events are, and with images of any type: the answers of a connection go out in the order
@@ -45,4 +46,10 @@ pub fn steps_say<I>()
 /// is the expiry of its session.
 pub fn refusals_have_causes<I>()
     ensures { RefusalsAreCaused I }
+{}
+
+/// On every state: a request that is no write is answered -6 exactly where its type is one that the protocol here doesn't
+/// have.
+pub fn unknown_requests()
+    ensures { UnknownIsUnimplemented }
 {}

@@ -1,6 +1,6 @@
 -- Which requests are answered -6.
-use Rattle.std.proofs.Common.{◌≡◌, ℕ, Bool, true, false, cond, not, List, [], ◌∷◌, Option, Some, None, is_some, refl, ap, sym, subst, ◌∙◌}
-use Rattle.std.specs.Prelude.{ℤ, if◌then◌else◌}
+use Rattle.std.proofs.Common.{◌≡◌, ℕ, Bool, true, false, not, List, Option, Some, None, refl}
+use Rattle.std.specs.Prelude.{if◌then◌else◌}
 use Rattle.std.specs.FinMap as map
 use Rattle.kp_model.specs.declared.node.Node.{Node}
 use Rattle.kp_model.specs.declared.read.ReadReply.{ReadReply}
@@ -8,16 +8,15 @@ use Rattle.kp_model.specs.declared.read.ReadReply.TheVariants as told
 use Rattle.kp_model.specs.Errors.{bad_arguments, no_node, no_auth}
 use Rattle.kp_model.specs.Path.{is_well_formed}
 use Rattle.kp_model.specs.Reads.{looked, shown_to, may_see, may_read, may_read_acl, read_answer}
-use Rattle.kp_model.specs.State.{State, Nodes, stat, kids}
+use Rattle.kp_model.specs.State.{Nodes}
 use Rattle.kp_model.specs.Touched.{ids_of}
 use Rattle.kp_ask.specs.Answers.{told_to}
 use Rattle.kp_ask.specs.Asks.{command, question}
 use Rattle.kp_ask.specs.Given.{given}
 use Rattle.kp_wire.specs.declared.request.WireAsk.{WireAsk}
 use Rattle.kp_wire.specs.declared.request.WireAsk.TheVariants as ask
-use Rattle.kp_watch.specs.declared.watch.Watch.{Watch}
 use Rattle.kp_step.specs.Answers.{state_answer}
-use Rattle.kp_step.specs.Unknown.{is_unknown, is_unimplemented, UnknownIsUnimplemented}
+use Rattle.kp_step.specs.Unknown.{is_unimplemented, UnknownIsUnimplemented}
 use Rattle.kp_step.proofs.Tables.{no}
 
 -- the code is another

@@ -1,12 +1,18 @@
 //! Tests of the workers of a node, over a small node.
 #![tactic(auto)]
 
+mod board;
 mod echo;
 mod letter;
 mod pair;
+mod parrot;
 #[cfg(test)]
 mod tests;
+#[cfg(test)]
+mod whole;
 
+pub use board::{Always, Board, Happening, OneLetter, Pieces};
 pub use echo::{Echo, Holds};
 pub use letter::Letter;
 pub use pair::serve_two;
+pub use parrot::Parrot;

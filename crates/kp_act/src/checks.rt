@@ -15,6 +15,7 @@ use kp_model::errors::{
     BAD_ARGUMENTS, BAD_VERSION, NO_AUTH, NO_CHILDREN_FOR_EPHEMERALS, NO_NODE, NODE_EXISTS,
     NOT_EMPTY,
 };
+use kp_model::limits::ANY_VERSION;
 use kp_model::{Acls, Meta, NoMemory, Paths};
 use std::alloc::Global;
 
@@ -27,9 +28,6 @@ const CREATE: u32 = 4;
 const DELETE: u32 = 8;
 
 const ADMIN: u32 = 16;
-
-/// The version of a command that matches every version: -1 in two's complement.
-const ANY_VERSION: u32 = 4294967295;
 
 /// The greatest flags of a creation.
 const MOST_FLAGS: u32 = 3;

@@ -7,7 +7,7 @@ pub mod Lists
 pub mod Raws
 pub mod RecordLaws
 pub mod RecordWrites
+pub mod Replays
 pub mod Runs
 pub mod Spelled
-pub mod Utf8
 pub mod Writes

@@ -2,15 +2,15 @@
 
 ghost use Rattle.std.specs.Prelude.{◌≡◌, length, IfErr, IfOk, IsTrue, OnErr};
 ghost use Rattle.std.specs.Int.{w8};
-ghost use Rattle.kp_jute.specs.Form.{Gives, Answers, IsOfBytes};
-ghost use Rattle.kp_jute.specs.Jute.{unsigned_of, valid_text};
+ghost use Rattle.kp_jute.specs.Form.{Gives, IsOfBytes};
+ghost use Rattle.kp_jute.specs.Jute.{unsigned_of};
 ghost use Rattle.kp_model.specs.Grammar.{is_number, is_timeout, is_origin};
 ghost use Rattle.kp_entry.specs.Fields.{u8s, u32s, numbers, timeouts, blobs, strings, passwords, origins};
 
 use crate::limits::{GREATEST_TIMEOUT, LEAST_TIMEOUT};
 use crate::list::Item;
 use crate::put_fields::{put_text, put_word};
-use kp_jute::{JuteFail, Reader};
+use kp_jute::{JuteFail, Reader, text_from};
 use kp_model::limits::LAST_NUMBER;
 use kp_model::{Acl, Bytes, NoMemory, Origin, Text};
 use std::alloc::Global;
@@ -65,12 +65,35 @@ pub fn read_timeout(reader: &mut Reader<'_>) -> Result<u32, JuteFail>
     Ok(timeout)
 }
 
+/// Lends bytes behind their length. A reader of which they are refused is to be dropped: it may stand behind
+/// their length.
+#[tactic(auto, unfolding(crate::specs::Fields::blob_at, kp_jute::specs::Jute::raw_at))]
+pub fn lend_bytes<'a>(reader: &mut Reader<'a>) -> Result<&'a [u8], JuteFail>
+    ensures { Gives (λ s. s.now) result reader.new (blobs.read reader.old) }
+{
+    let at = reader.place();
+    let len = reader.unsigned_int()? as usize;
+    if reader.remaining() < len {
+        return Err(JuteFail::Short { at });
+    }
+    reader.take(len)
+}
+
+/// Lends a text behind its length. A reader of which it is refused is to be dropped: it may stand behind it.
+pub fn lend_text<'a>(reader: &mut Reader<'a>) -> Result<&'a str, JuteFail>
+    ensures { Gives (λ s. s.now) result reader.new (strings.read reader.old) }
+{
+    let at = reader.place();
+    let bytes = lend_bytes(reader)?;
+    text_from(at, bytes)
+}
+
 /// Reads bytes behind their length. They are copied once, and only where they are all there. A reader of
 /// which they are refused is to be dropped: it may stand behind their length.
 pub fn read_bytes(alloc: Global, reader: &mut Reader<'_>) -> Result<Bytes, JuteFail>
     ensures { Gives (λ b. b) result reader.new (blobs.read reader.old) }
 {
-    let bytes = blob(reader)?;
+    let bytes = lend_bytes(reader)?;
     let bytes = Vec::from_slice(alloc, bytes)?;
     Ok(Bytes::from_vec(bytes))
 }
@@ -80,9 +103,7 @@ pub fn read_bytes(alloc: Global, reader: &mut Reader<'_>) -> Result<Bytes, JuteF
 pub fn read_text(alloc: Global, reader: &mut Reader<'_>) -> Result<Text, JuteFail>
     ensures { Gives (λ t. t) result reader.new (strings.read reader.old) }
 {
-    let at = reader.place();
-    let bytes = blob(reader)?;
-    let text = text_from(at, bytes)?;
+    let text = lend_text(reader)?;
     let text = String::from_str(alloc, text)?;
     Ok(Text::from_string(text))
 }
@@ -143,29 +164,6 @@ impl Item for Text {
 
     fn write(&self, out: &mut Vec<u8>) -> Result<(), NoMemory> {
         put_text(out, self)
-    }
-}
-
-// Lends bytes behind their length.
-#[tactic(auto, unfolding(crate::specs::Fields::blob_at, kp_jute::specs::Jute::raw_at))]
-fn blob<'a>(reader: &mut Reader<'a>) -> Result<&'a [u8], JuteFail>
-    ensures { Gives (λ s. s.now) result reader.new (blobs.read reader.old) }
-{
-    let at = reader.place();
-    let len = reader.unsigned_int()? as usize;
-    if reader.remaining() < len {
-        return Err(JuteFail::Short { at });
-    }
-    reader.take(len)
-}
-
-#[tactic(auto, using(crate::proofs::Utf8::is_valid, crate::proofs::Utf8::is_invalid))]
-fn text_from(at: usize, bytes: &[u8]) -> Result<&str, JuteFail>
-    ensures { Answers (λ s. s.now) result (valid_text at bytes.now) }
-{
-    match std::str::from_utf8(bytes) {
-        Err(_) => Err(JuteFail::BadByte { at }),
-        Ok(text) => Ok(text),
     }
 }
 

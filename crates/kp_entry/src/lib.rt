@@ -24,8 +24,8 @@ pub use entries::{Entries, spelled_entry, spelled_term};
 pub use entry::{decode, encode};
 pub use fail::EntryFail;
 pub use fields::{
-    read_byte, read_bytes, read_number, read_origin, read_password, read_text, read_timeout,
-    read_word,
+    lend_bytes, lend_text, read_byte, read_bytes, read_number, read_origin, read_password,
+    read_text, read_timeout, read_word,
 };
 pub use list::{Item, put_items, put_list, read_list};
 pub use promises::{laws, no_entry_begins_another};

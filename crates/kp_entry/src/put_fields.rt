@@ -103,7 +103,7 @@ pub fn put_origin(out: &mut Vec<u8>, value: Origin) -> Result<(), NoMemory>
     put_number(out, value.conn)
 }
 
-#[tactic(auto, using(crate::proofs::Utf8::is_valid))]
+#[tactic(auto, using(kp_jute::proofs::Utf8::is_valid))]
 fn bytes_of(text: &str) -> &[u8]
     ensures same { result.now ≡ text.now }
     ensures valid { is_utf8 text.now ≡ true }

@@ -10,5 +10,5 @@ mod writer;
 pub use fault::JuteFail;
 pub use memory::NoMemory;
 pub use promises::laws;
-pub use reader::Reader;
+pub use reader::{Reader, text_from};
 pub use writer::Writer;

@@ -378,8 +378,9 @@ fn unsigned_long_from(front: &[u8]) -> u64
     ])
 }
 
+/// The text that bytes spell. Bytes that aren't UTF-8 are refused at `at`, the place where they began.
 #[tactic(auto, using(crate::proofs::Utf8::is_valid, crate::proofs::Utf8::is_invalid))]
-fn text_from(at: usize, bytes: &[u8]) -> Result<&str, JuteFail>
+pub fn text_from(at: usize, bytes: &[u8]) -> Result<&str, JuteFail>
     ensures { Answers (λ s. s.now) result (valid_text at bytes.now) }
 {
     match std::str::from_utf8(bytes) {

@@ -3,12 +3,10 @@ ghost use Rattle.kp_load.specs.Load.{begun, written, create_in, child_line_in, s
 
 use crate::draw::{bytes_in, child_in, kind_in, next_number, path_in, place_in};
 use kp_model::NoMemory;
+use kp_model::limits::ANY_VERSION;
 use kp_text::{Command, Operation, StoreLine};
 use std::alloc::Global;
 use std::marker::Model;
-
-/// Every version of a node: -1 in 32 bits.
-const ANY_VERSION: u32 = 4_294_967_295;
 
 /// The lines of a load: one that opens a session, as many as were asked for that are drawn one behind the other, and then
 /// commits until nothing is unapplied.

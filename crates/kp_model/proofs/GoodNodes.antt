@@ -143,10 +143,10 @@ absent None e = refl
 absent (Some n) e = absurd (true≢false e)
 
 -- what a creation that doesn't fail knows
-record MayCreate (nodes : Nodes) (path : List ℕ) : Type 0 where
-  formed : IsTrue (is_well_formed path)
-  parent_there : HasParent nodes path
-  absent : map.get nodes path ≡ None
+pub record MayCreate (nodes : Nodes) (path : List ℕ) : Type 0 where
+  pub formed : IsTrue (is_well_formed path)
+  pub parent_there : HasParent nodes path
+  pub absent : map.get nodes path ≡ None
 
 place_passes : (ids : List (List ℕ)) (up there : Option Node) → parent_fails ids up there ≡ None → ((u : Node) × (up ≡ Some u) × IsPersistent u) × (there ≡ None)
 place_passes ids None there e = absurd (no_value _ e)
@@ -160,7 +160,7 @@ list_passes : (o : Option (List Acl)) (next : Option ℤ) → list_fails o next 
 list_passes None next e = absurd (no_value _ e)
 list_passes (Some kept) next e = e
 
-creation_facts : (nodes : Nodes) (ids : List (List ℕ)) (path : List ℕ) (flags : ℕ) (acl : List Acl) → create_fails nodes ids path flags acl ≡ None → MayCreate nodes path
+pub creation_facts : (nodes : Nodes) (ids : List (List ℕ)) (path : List ℕ) (flags : ℕ) (acl : List Acl) → create_fails nodes ids path flags acl ≡ None → MayCreate nodes path
 unfolding create_fails
 creation_facts nodes ids path flags acl e =
     let formed = passes _ _ _ e in
@@ -169,13 +169,13 @@ creation_facts nodes ids path flags acl e =
     let place = place_passes ids (map.get nodes (parent path)) (map.get nodes path) deep.1 in
     record { formed = holds _ formed.0; parent_there = place.0; absent = place.1 }
 
-parent_stays : (i : ℕ) (p : List ℕ) (nodes : Nodes) (o : Option Node) (u : Node) → o ≡ Some u → IsPersistent u → Finds IsPersistent (changed (with_child i) p o nodes) p
+pub parent_stays : (i : ℕ) (p : List ℕ) (nodes : Nodes) (o : Option Node) (u : Node) → o ≡ Some u → IsPersistent u → Finds IsPersistent (changed (with_child i) p o nodes) p
 parent_stays i p nodes None u there h = absurd (no_value u (sym there))
 parent_stays i p nodes (Some n) u there h =
     (with_child i n, get_inserted nat_list_cmp_total path_cmp-IsAntisymmetric nodes p (with_child i n), subst IsPersistent (same_value u n (sym there)) h)
 
 -- a changed node has the path that it had, so nothing is found at a path that was free
-free_changed : (f : Node → Node) (p k : List ℕ) (nodes : Nodes) (o : Option Node) → map.get nodes p ≡ o → map.get nodes k ≡ None → Each (λ q _. q ≡ k → ⊥) (changed f p o nodes)
+pub free_changed : (f : Node → Node) (p k : List ℕ) (nodes : Nodes) (o : Option Node) → map.get nodes p ≡ o → map.get nodes k ≡ None → Each (λ q _. q ≡ k → ⊥) (changed f p o nodes)
 free_changed f p k nodes None found free = λ q x there e. no_value x (sym there ∙ ap (map.get nodes) e ∙ free)
 free_changed f p k nodes (Some n) found free =
     each_inserted nat_list_cmp_total path_cmp-IsAntisymmetric (λ q _. q ≡ k → ⊥) nodes p (f n) (λ e. no_value n (sym found ∙ ap (map.get nodes) e ∙ free))
@@ -208,11 +208,11 @@ childless nodes ids path version (Some n) e =
     eqb-true _ 0 (last_passes _ not_empty matches.1)
 
 -- what a removal that doesn't fail knows
-record MayDelete (nodes : Nodes) (path : List ℕ) : Type 0 where
-  deep : bytes_eq path root ≡ false
-  childless : HasNoChild nodes path
+pub record MayDelete (nodes : Nodes) (path : List ℕ) : Type 0 where
+  pub deep : bytes_eq path root ≡ false
+  pub childless : HasNoChild nodes path
 
-deletion_facts : (nodes : Nodes) (ids : List (List ℕ)) (path : List ℕ) (version : ℕ) → delete_fails nodes ids path version ≡ None → MayDelete nodes path
+pub deletion_facts : (nodes : Nodes) (ids : List (List ℕ)) (path : List ℕ) (version : ℕ) → delete_fails nodes ids path version ≡ None → MayDelete nodes path
 unfolding delete_fails
 deletion_facts nodes ids path version e =
     let formed = passes _ _ _ e in
@@ -220,7 +220,7 @@ deletion_facts nodes ids path version e =
     record { deep = deep.0; childless = no_child nodes path (childless nodes ids path version _ deep.1) }
 
 -- a changed node has the path that it had, so no path has a child more
-childless_changed : (f : Node → Node) (p k : List ℕ) (nodes : Nodes) (o : Option Node) → map.get nodes p ≡ o → HasNoChild nodes k → HasNoChild (changed f p o nodes) k
+pub childless_changed : (f : Node → Node) (p k : List ℕ) (nodes : Nodes) (o : Option Node) → map.get nodes p ≡ o → HasNoChild nodes k → HasNoChild (changed f p o nodes) k
 childless_changed f p k nodes None found none = none
 childless_changed f p k nodes (Some n) found none =
     each_inserted nat_list_cmp_total path_cmp-IsAntisymmetric (λ q _. is_child k q ≡ false) nodes p (f n) (none p n found) none

@@ -1,5 +1,5 @@
 ghost use Rattle.std.specs.Prelude.{◌≡◌, IfOk, IsTrue, is_ok};
-ghost use Rattle.kp_model.specs.Grammar.{has_numbers, is_fitting};
+ghost use Rattle.kp_model.specs.Grammar.{has_numbers, is_entry, is_fitting};
 
 use crate::command::{Cmd, Op};
 use crate::items::Items;
@@ -119,9 +119,10 @@ impl Entry {
         Ok(Entry { term, time, body })
     }
 
-    /// An equal value with memory of its own.
+    /// An equal value with memory of its own. Every entry has the grammar of entries.
     pub fn copy(&self, alloc: Global) -> Result<Entry, NoMemory>
-        ensures { IfOk result (λ made. made ≡ self.now) }
+        ensures same { IfOk result (λ made. made ≡ self.now) }
+        ensures grammar { IsTrue (is_entry self.now) }
     {
         Ok(Entry {
             term: self.term,

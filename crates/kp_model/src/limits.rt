@@ -11,3 +11,6 @@ pub const LONGEST_FIELD: usize = 4_294_967_295;
 
 /// 2^20 - 1: the length of the longest frame of the protocol, in bytes.
 pub const LONGEST_FRAME: u32 = 1_048_575;
+
+/// 2^32 - 1, the `int` -1 of the protocol: the version that an operation asks for where any version will do.
+pub const ANY_VERSION: u32 = 4_294_967_295;

@@ -2,7 +2,7 @@ ghost use Rattle.std.specs.Prelude.{◌≡◌, ◌<◌, ◌^◌, ◌≤◌, ◌+
 ghost use Rattle.std.specs.FinMap as map;
 ghost use Rattle.std.specs.Option.{option_map};
 ghost use Rattle.kp_model.specs.Good.{IsSound};
-ghost use Rattle.kp_model.specs.Grammar.{is_entry, IsEntry};
+ghost use Rattle.kp_model.specs.Grammar.{IsEntry};
 ghost use Rattle.kp_model.specs.State.{seen as seen_of};
 ghost use Rattle.kp_model.specs.Step.{apply, Outcome};
 ghost use Rattle.kp_model.specs.Store.{after, latest, last as last_of, empty, with_entry, kept as kept_of, outcome_in, truncated, commit_answer, commit_leaves};
@@ -56,15 +56,6 @@ impl Model for PlainStore {
     ghost view = { λ x. record { state = x.state; unapplied = x.unapplied.items } };
 
     ghost invariant = { λ x. Keeps x.state x.unapplied.items };
-}
-
-// A copy of an entry, which keeps its grammar: to lend a field opens what an entry's type says of it.
-fn copied(alloc: Global, entry: &Entry) -> Result<Entry, NoMemory>
-    ensures same { IfOk result (λ made. made ≡ entry.now) }
-    ensures grammar { IsTrue (is_entry entry.now) }
-{
-    let _term = &entry.term;
-    entry.copy(alloc)
 }
 
 // The state behind one entry.
@@ -179,7 +170,7 @@ impl PlainStore {
         ensures ok { OnOk result (self.new ≡ with_entry self.old entry.now) }
         ensures err { OnErr result (self.new ≡ self.old) }
     {
-        let entry = copied(self.alloc, entry)?;
+        let entry = entry.copy(self.alloc)?;
         self.unapplied.push(entry)?;
         Ok(())
     }

@@ -5,7 +5,7 @@ use Rattle.std.proofs.lemmas.Bool.Decides.{nat_tests}
 use Rattle.std.proofs.Math.Seq.{drop-cons}
 use Rattle.kp_model.specs.LogEntry.{LogEntry}
 use Rattle.kp_entry.specs.Log.{Log, last_from, last_index, has_index, term_of, behind}
-use Rattle.kp_raft.proofs.Lists.{len_dropped, drop_next, all_dropped}
+use Rattle.kp_raftlog.proofs.Totals.{len_dropped, drop_next, all_dropped}
 use Rattle.kp_raft.specs.Appends.{has_term, agreeing}
 
 taken_one : (n : ℕ) (es : List LogEntry) (y : LogEntry) (ys : List LogEntry) → drop n es ≡ y ∷ ys → take (n + 1) es ≡ take n es ++ y ∷ []

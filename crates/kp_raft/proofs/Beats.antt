@@ -9,7 +9,7 @@ use Rattle.kp_model.specs.Majority.{count}
 use Rattle.kp_raft.specs.Numbers.{for_peers}
 use Rattle.kp_raft.specs.Parts.{Running, to}
 use Rattle.kp_raft.specs.Appends.{lags, append_for, install_with, beat_for}
-use Rattle.kp_raft.proofs.Lists.{drop_next}
+use Rattle.kp_raftlog.proofs.Totals.{drop_next}
 
 ahead_by : (peer me next base : ℕ) (a b : Bool) → nat_eq peer me ≡ a → nat_le next base ≡ b → (peer ≡ me → ⊥) → (not a && b) ≡ false → base < next
 ahead_by peer me next base true b same low other is = let e : peer ≡ me = grind (arith, nat_tests) in absurd (other e)

@@ -4,7 +4,7 @@ use Rattle.std.specs.Prelude.{Bool, cond, nat_lt, nat_le, ◌&&◌}
 use Rattle.std.proofs.lemmas.Bool.Decides.{nat_tests}
 use Rattle.kp_model.specs.LogEntry.{LogEntry}
 use Rattle.kp_entry.specs.Log.{Log, last_from, last_index, has_index, term_of, term_at}
-use Rattle.kp_raft.proofs.Lists.{all_taken}
+use Rattle.kp_raftlog.proofs.Totals.{all_taken}
 use Rattle.kp_raft.specs.Numbers.{greatest}
 
 -- none above old

@@ -7,13 +7,10 @@ use Rattle.kp_entry.specs.declared.record.Record.{Record}
 use Rattle.kp_entry.specs.declared.record.Record.TheVariants as record_
 use Rattle.kp_entry.specs.Heads.{appended}
 use Rattle.kp_entry.specs.Log.{Log, last_index, with_entries, truncated}
-use Rattle.kp_entry.specs.Held.{Held, replay_one, replay}
+use Rattle.kp_entry.specs.Held.{Held, replay}
+use Rattle.kp_entry.proofs.Replays.{replay_append}
 use Rattle.kp_raft.specs.Parts.{vote_records, with_cut, changes, cut_log}
 use Rattle.kp_raft.specs.Steps.{added, cut_to}
-
-pub replay_append : (h : Held) (rs ss : List Record) → replay h (rs ++ ss) ≡ replay (replay h rs) ss
-replay_append h [] ss = refl
-replay_append h (r ∷ rs) ss = replay_append (replay_one h r) rs ss
 
 -- what a member holds with this term, vote and log
 abbrev pub held_with : ℕ → ℕ → Log → Held

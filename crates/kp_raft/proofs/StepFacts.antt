@@ -11,7 +11,8 @@ use Rattle.kp_entry.specs.Records.{is_base, has_base}
 use Rattle.std.proofs.lemmas.List.{map-append}
 use Rattle.std.proofs.lemmas.List.Folds.{list_any-append}
 use Rattle.kp_entry.specs.Log.{Log, last_index, term_of, behind, with_entries, truncated, rebased}
-use Rattle.kp_raft.proofs.Lists.{all_taken, next_taken, len_taken, len_dropped, all_dropped}
+use Rattle.kp_raftlog.proofs.Totals.{all_taken, len_taken, len_dropped, all_dropped}
+use Rattle.kp_raft.proofs.Lists.{next_taken}
 use Rattle.kp_raft.specs.declared.mail.Mail.{Mail}
 use Rattle.kp_raft.specs.declared.event.RaftOut.{RaftOut}
 use Rattle.kp_raft.specs.declared.vars.Vars.{Vars}
@@ -26,7 +27,8 @@ use Rattle.kp_raft.specs.Appends.{agreeing, fits, below_base, matched, clashes, 
 use Rattle.kp_raft.specs.Steps.{added, cut_to, fitting}
 use Rattle.kp_raft.specs.Variables.{vars_of}
 use Rattle.kp_raft.specs.Members.{Member, running_of, shown, Steps}
-use Rattle.kp_raft.proofs.Replays.{held_with, added_entries, replay_append, replay_vote, replay_still, replay_changes, still_adds, still_cuts, changes_add, changes_cut, changes_none, vote_same}
+use Rattle.kp_raft.proofs.Replays.{held_with, added_entries, replay_vote, replay_still, replay_changes, still_adds, still_cuts, changes_add, changes_cut, changes_none, vote_same}
+use Rattle.kp_entry.proofs.Replays.{replay_append}
 
 pub heads : (rs : List Record) (cut : Option ℕ) → rs ++ cut_off cut ≡ with_cut rs cut
 heads rs None = append-nil rs

@@ -6,7 +6,6 @@ mod fail;
 mod figures;
 mod image;
 mod known;
-mod lent;
 mod lines;
 mod nodes;
 mod pour_nodes;

@@ -13,9 +13,9 @@ ghost use Rattle.kp_snapshot.specs.Knowing.{Finds, Stand};
 ghost use Rattle.kp_snapshot.specs.Nodes.{fields_of, placed_of};
 
 use crate::figures::read_figures;
-use crate::lent::{lend_bytes, lend_text};
 use crate::lines::read_lines;
 use crate::trail::Trail;
+use kp_entry::{lend_bytes, lend_text};
 use kp_jute::{JuteFail, Reader};
 use kp_model::{Acls, Meta};
 use std::alloc::Global;

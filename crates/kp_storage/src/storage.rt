@@ -2,7 +2,6 @@ ghost use Rattle.std.specs.Prelude.{◌≡◌, ◌==◌, not, ℕ, ◌<◌, ◌�
 ghost use Rattle.std.specs.Option.{option_copied};
 ghost use Rattle.std.specs.FinMap as map;
 ghost use Rattle.kp_model.specs.Good.{IsSound};
-ghost use Rattle.kp_model.specs.Grammar.{is_entry};
 ghost use Rattle.kp_model.specs.State.{meta_at, bytes_at};
 ghost use Rattle.kp_model.specs.LogEntry.{LogEntry};
 ghost use Rattle.kp_model.specs.Reads.{read_answer};
@@ -50,15 +49,6 @@ impl Model for Storage {
     ghost view = { λ x. store x.cells x.entries.items };
 
     ghost invariant = { λ x. Keeps x.cells x.entries.items x.answers.items };
-}
-
-// A copy of an entry, which keeps its grammar: to lend a field opens what an entry's type says of it.
-fn copied(alloc: Global, entry: &Entry) -> Result<Entry, NoMemory>
-    ensures same { IfOk result (λ made. made ≡ entry.now) }
-    ensures grammar { IsTrue (is_entry entry.now) }
-{
-    let _term = &entry.term;
-    entry.copy(alloc)
 }
 
 impl Storage {
@@ -113,7 +103,7 @@ impl Storage {
         ensures ok { OnOk result (self.new ≡ with_entry self.old entry.now) }
         ensures err { OnErr result (self.new ≡ self.old) }
     {
-        let entry = copied(self.alloc, entry)?;
+        let entry = entry.copy(self.alloc)?;
         let index = self.last() + 1;
         self.entries.reserve(1)?;
         self.answers.reserve(1)?;

@@ -1,17 +1,17 @@
-mod Numerals
+pub mod Numerals
 mod LineWords
-mod Spelled
-mod Parted
-mod Visible
-mod Hexadecimal
+pub mod Spelled
+pub mod Parted
+pub mod Visible
+pub mod Hexadecimal
 mod Versions
-mod Choices
+pub mod Choices
 mod Prints
 mod AclTexts
 mod AclSteps
-mod OperationTexts
+pub mod OperationTexts
 mod MultiTexts
 mod MultiSteps
 mod CommandTexts
-mod LineTexts
+pub mod LineTexts
 mod Shaped

@@ -35,13 +35,13 @@ number_fits n h = grind (arith, nat_tests, h)
 pub number_small : (n : ℕ) → is_number n ≡ true → n ≤ last_number
 number_small n h = grind (arith, nat_tests, h)
 
-number_read : (a : List ℕ) (n : ℕ) → number_of last_number a ≡ Some n → (a ≡ decimal n) × (is_number n ≡ true)
+pub number_read : (a : List ℕ) (n : ℕ) → number_of last_number a ≡ Some n → (a ≡ decimal n) × (is_number n ≡ true)
 number_read a n e = let h = number_is_spelled last_number n a (omega arith) e in (h.0, number_fits n h.1)
 
-number_back : (n : ℕ) → is_number n ≡ true → number_of last_number (decimal n) ≡ Some n
+pub number_back : (n : ℕ) → is_number n ≡ true → number_of last_number (decimal n) ≡ Some n
 number_back n h = spelled_is_read last_number n (number_small n h) (omega arith)
 
-number_part : (n : ℕ) → is_number n ≡ true → is_part (decimal n) ≡ true
+pub number_part : (n : ℕ) → is_number n ≡ true → is_part (decimal n) ≡ true
 number_part n h = decimal_part n (let small = number_small n h in omega (arith, small))
 
 timeout_fits : (n : ℕ) → nat_le 10000 n ≡ true → n ≤ 100000 → is_timeout n ≡ true
@@ -56,7 +56,7 @@ timeout_back n h = spelled_is_read 100000 n (timeout_small n h) (omega arith)
 timeout_part : (n : ℕ) → is_timeout n ≡ true → is_part (decimal n) ≡ true
 timeout_part n h = let small = timeout_small n h in decimal_part n (omega (arith, small))
 
-passwd_part : (p : List ℕ) → is_passwd p ≡ true → is_part (encode_lower p) ≡ true
+pub passwd_part : (p : List ℕ) → is_passwd p ≡ true → is_part (encode_lower p) ≡ true
 passwd_part p h = hex_word p (left (are_bytes p) (length p == 16) h)
 
 -- ---- what is read as a line is spelled so

@@ -85,7 +85,7 @@ words_are_utf8 (w ∷ v ∷ ws) h =
     both (is_utf8 w) (list_all is_utf8 (v ∷ ws)) (is_utf8-from_IsUtf8 w p.0) (words_are_utf8 (v ∷ ws) p.1)
 
 -- texts joined by spaces are a text
-joined_utf8 : (ws : List (List ℕ)) → list_all is_utf8 ws ≡ true → IsUtf8 (join_with_byte 32 ws)
+pub joined_utf8 : (ws : List (List ℕ)) → list_all is_utf8 ws ≡ true → IsUtf8 (join_with_byte 32 ws)
 joined_utf8 [] h = IsUtf8-nil
 joined_utf8 (w ∷ []) h = IsUtf8-from_is_utf8 w (left (is_utf8 w) true h)
 joined_utf8 (w ∷ v ∷ ws) h =
@@ -100,18 +100,18 @@ no_spaces [] h = All-nil (λ b. is_space b ≡ false)
 no_spaces (b ∷ w) h = All-cons (λ b. is_space b ≡ false) b w (no_space (is_space b) (left (not (is_space b)) (is_plain w) h)) (no_spaces w (right (not (is_space b)) (is_plain w) h))
 
 -- words joined by spaces are parted there again
-words_joined : (w : List ℕ) (ws : List (List ℕ)) → list_all is_plain (w ∷ ws) ≡ true → words_of (join_with_byte 32 (w ∷ ws)) ≡ w ∷ ws
+pub words_joined : (w : List ℕ) (ws : List (List ℕ)) → list_all is_plain (w ∷ ws) ≡ true → words_of (join_with_byte 32 (w ∷ ws)) ≡ w ∷ ws
 unfolding words_of
 words_joined w [] h = slice_split_none is_space w (no_spaces w (left (is_plain w) true h))
 words_joined w (v ∷ ws) h =
     slice_split_at is_space w 32 (join_with_byte 32 (v ∷ ws)) (no_spaces w (left (is_plain w) (list_all is_plain (v ∷ ws)) h)) refl
     ∙ ap (λ l. w ∷ l) (words_joined v ws (right (is_plain w) (list_all is_plain (v ∷ ws)) h))
 
-parts_plain : (ws : List (List ℕ)) → list_all is_part ws ≡ true → list_all is_plain ws ≡ true
+pub parts_plain : (ws : List (List ℕ)) → list_all is_part ws ≡ true → list_all is_plain ws ≡ true
 parts_plain [] h = refl
 parts_plain (w ∷ ws) h = both (is_plain w) (list_all is_plain ws) (left (is_plain w) (is_utf8 w) (left (is_part w) (list_all is_part ws) h)) (parts_plain ws (right (is_part w) (list_all is_part ws) h))
 
-parts_utf8 : (ws : List (List ℕ)) → list_all is_part ws ≡ true → list_all is_utf8 ws ≡ true
+pub parts_utf8 : (ws : List (List ℕ)) → list_all is_part ws ≡ true → list_all is_utf8 ws ≡ true
 parts_utf8 [] h = refl
 parts_utf8 (w ∷ ws) h = both (is_utf8 w) (list_all is_utf8 ws) (right (is_plain w) (is_utf8 w) (left (is_part w) (list_all is_part ws) h)) (parts_utf8 ws (right (is_part w) (list_all is_part ws) h))
 

@@ -17,3 +17,4 @@ pub use line::{StoreLine, read_store_line};
 pub use print::{
     print_acls, print_data, print_names, print_reply, print_session, print_stat, print_text,
 };
+pub use words::{data_of, number_of, passwd_of, path_of, words_of};

@@ -4,7 +4,7 @@ ghost use Rattle.std.specs.Option.{option_map};
 ghost use Rattle.std.specs.Char.{is_ascii_digit};
 ghost use Rattle.kp_text.specs.Words.{words_of as words_in, path_of as path_in, is_numeral as is_numeral_of, number_of as number_in, is_lower_hex, hex_of as hex_in, data_of as data_in, passwd_of as passwd_in, of_16, version_of as version_in};
 
-use kp_model::limits::LAST_COUNT;
+use kp_model::limits::{ANY_VERSION, LAST_COUNT};
 use kp_model::{NoMemory, Text};
 use std::alloc::{AllocError, Global};
 
@@ -52,9 +52,6 @@ pub fn number_of(most: u64, word: &str) -> Option<u64>
         Err(_) => None,
     }
 }
-
-/// The version that matches any: -1 in two's complement.
-const ANY_VERSION: u32 = 4294967295;
 
 /// The version that a word is, where `-1` stands for the one that matches any.
 #[tactic(auto, unfolding(crate::specs::Words::version_of))]

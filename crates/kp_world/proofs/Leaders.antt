@@ -15,7 +15,7 @@ use Rattle.kp_model.specs.Majority.{is_majority}
 use Rattle.kp_entry.specs.Held.{Held}
 use Rattle.kp_raft.specs.Parts.{Running, is_leader, is_candidate, vote_records, following}
 use Rattle.kp_entry.specs.Heads.{appended}
-use Rattle.kp_raft.proofs.Replays.{replay_append}
+use Rattle.kp_entry.proofs.Replays.{replay_append}
 use Rattle.kp_world.specs.Log.{last_term}
 use Rattle.kp_world.specs.Book.{Book, set_at}
 use Rattle.kp_world.specs.Moves.{Stand, MayStand, after_move}

@@ -2,7 +2,7 @@ use Rattle.std.proofs.Common.{arith, ap, ◌∙◌, ◌≡◌, List, [], ◌++�
 use Rattle.kp_model.specs.LogEntry.{LogEntry}
 use Rattle.kp_entry.specs.Heads.{voted, appended}
 use Rattle.kp_entry.specs.Log.{with_entries, truncated}
-use Rattle.kp_raft.proofs.Lists.{all_taken}
+use Rattle.kp_raftlog.proofs.Totals.{all_taken}
 use Rattle.kp_raft.proofs.StepFacts.{own_steps}
 use Rattle.kp_raft.proofs.raft.Raft.append_own.Goals as goal
 

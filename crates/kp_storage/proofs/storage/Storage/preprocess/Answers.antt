@@ -41,7 +41,7 @@ invariant_of-self-in-Ok c =
     omega (arith, c.last-index.ensures.index, applied_is o, ap (λ (x : Store). x.state.applied + length x.unapplied) c.self.view_is) in
     let room : o.applied + length c.self.inside.entries.items < 4611686018427387904 =
     omega (arith, c.requires.room, applied_is o, ap (λ (x : Store). x.state.applied + length x.unapplied) c.self.view_is) in
-    let taken : IsEntry e = subst IsEntry (sym c.in_ok-entry.ensures.same) c.copied.ensures.grammar in
+    let taken : IsEntry e = subst IsEntry (sym c.in_ok-entry.ensures.same) c.copy.ensures.grammar in
     let within : AreWithin (touched (latest_state (all_begun o)) e) (staged_keys c.prepare.new.cells) = subst (λ (x : Overlays). AreWithin (touched (latest_state x) e) (staged_keys c.prepare.new.cells)) c.in_ok-begin.ensures.ok c.in-Ok.ensures.touches in
     let entries : c.push_back_reserved.new.self.items ≡ c.self.inside.entries.items ++ e ∷ [] =
     c.push_back_reserved.ensures.items ∙ ap (λ (xs : List LogEntry). xs ++ e ∷ []) c.reserve.ensures.items in

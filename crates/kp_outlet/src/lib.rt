@@ -4,5 +4,5 @@
 mod outlet;
 mod ready_sink;
 
-pub use outlet::Outlet;
+pub use outlet::{Outlet, OutletEnd};
 pub use ready_sink::ReadySink;

@@ -1,5 +1,5 @@
 // A sink with what it has yet to take.
-ghost use Rattle.std.specs.Prelude.{◌≡◌, ◌<◌, ◌≤◌, ◌+◌, [], Bool, false, length, drop};
+ghost use Rattle.std.specs.Prelude.{◌≡◌, ◌<◌, ◌≤◌, ◌+◌, [], None, length, drop};
 ghost use Rattle.kp_outlet.specs.Outlets.{HandsOut, IsOutlet, IsWithin, Keeps, Settles, has_rest, kept};
 
 use crate::ready_sink::ReadySink;
@@ -8,14 +8,26 @@ use std::alloc::Global;
 /// The most bytes that are kept.
 const MOST: usize = 4_194_304;
 
-/// A sink, and the bytes that it has yet to take: those of `rest` from `from` on. Once it is over nothing more goes out: the sink
-/// failed, more than 4,194,304 bytes would have been kept, or there was no memory for them.
+/// Why nothing more goes out.
+#[derive(Clone, Copy, Drop)]
+pub enum OutletEnd {
+    /// The sink failed.
+    Fault,
+
+    /// More than 4,194,304 bytes would have been kept.
+    Full,
+
+    /// There was no memory for what was to be kept.
+    NoMemory,
+}
+
+/// A sink, and the bytes that it has yet to take: those of `rest` from `from` on. Once it has an end nothing more goes out.
 #[derive(Drop)]
 pub struct Outlet<W> {
     sink: W,
     rest: Vec<u8>,
     from: usize,
-    over: bool,
+    end: Option<OutletEnd>,
 }
 
 impl<W: ReadySink> Outlet<W> {
@@ -24,21 +36,21 @@ impl<W: ReadySink> Outlet<W> {
         ensures outlet { IsOutlet result }
         ensures sink { result.sink ≡ sink }
         ensures kept { kept result ≡ [] }
-        ensures over { result.over ≡ false }
+        ensures open { result.end ≡ None }
     {
         Outlet {
             sink,
             rest: Vec::new(alloc),
             from: 0,
-            over: false,
+            end: None,
         }
     }
 
-    /// Whether nothing goes out any more.
-    pub fn is_over(&self) -> bool
-        ensures { result ≡ self.now.over }
+    /// Why nothing goes out any more, or None where something may.
+    pub fn end(&self) -> Option<OutletEnd>
+        ensures { result ≡ self.now.end }
     {
-        self.over
+        self.end
     }
 
     /// Whether there are bytes that the sink has yet to take.
@@ -49,13 +61,13 @@ impl<W: ReadySink> Outlet<W> {
         self.from < self.rest.len()
     }
 
-    /// Hands bytes out. What the sink can't take now is kept, or it is over.
+    /// Hands bytes out. What the sink can't take now is kept, or the outlet has an end from then on.
     pub fn hand(&mut self, bytes: &[u8])
         requires { IsOutlet self.old }
         ensures outlet { IsOutlet self.new }
-        ensures hands { HandsOut W.held self.old self.new bytes.now }
+        ensures hands { HandsOut W.held W.faults self.old self.new bytes.now }
     {
-        if self.over {
+        if self.end.is_some() {
             return;
         }
         if self.from < self.rest.len() {
@@ -64,7 +76,7 @@ impl<W: ReadySink> Outlet<W> {
         }
         match self.sink.offer(bytes) {
             Ok(count) => keep(self, &bytes[count..]),
-            Err(_) => self.over = true,
+            Err(_) => self.end = Some(OutletEnd::Fault),
         }
     }
 
@@ -72,9 +84,9 @@ impl<W: ReadySink> Outlet<W> {
     pub fn push_on(&mut self)
         requires { IsOutlet self.old }
         ensures outlet { IsOutlet self.new }
-        ensures hands { HandsOut W.held self.old self.new [] }
+        ensures hands { HandsOut W.held W.faults self.old self.new [] }
     {
-        if self.over {
+        if self.end.is_some() {
             return;
         }
         match self.sink.offer(&self.rest[self.from..]) {
@@ -82,22 +94,23 @@ impl<W: ReadySink> Outlet<W> {
                 self.from += count;
                 settle(self);
             }
-            Err(_) => self.over = true,
+            Err(_) => self.end = Some(OutletEnd::Fault),
         }
     }
 }
 
-// Keeps bytes behind the others, or is over where they are too many or memory runs out.
+// Keeps bytes behind the others. Where they are too many or memory runs out that is the outlet's end.
 fn keep<W: ReadySink>(outlet: &mut Outlet<W>, bytes: &[u8])
-    requires { IsOutlet outlet.old }
+    requires outlet { IsOutlet outlet.old }
+    requires open { outlet.old.end ≡ None }
     ensures outlet { IsOutlet outlet.new }
     ensures keeps { Keeps outlet.old outlet.new bytes.now }
 {
     let kept = outlet.rest.len() - outlet.from;
     if bytes.len() > MOST - kept {
-        outlet.over = true;
+        outlet.end = Some(OutletEnd::Full);
     } else if outlet.rest.extend_from_slice(bytes).is_err() {
-        outlet.over = true;
+        outlet.end = Some(OutletEnd::NoMemory);
     }
 }
 

@@ -1,7 +1,6 @@
 -- The laws on histories, one task at a time.
-use Rattle.std.proofs.Common.{◌≡◌, ◌≤◌, ◌+◌, ℕ, List, [], ◌∷◌, refl, sym, ap, ◌∙◌, subst, arith}
-use Rattle.std.specs.Prelude.{Option, Some, None, Result, Ok, Err}
-use Rattle.kp_turn.specs.History.{Runs}
+use Rattle.std.proofs.Common.{◌≡◌, ℕ, [], ◌∷◌, refl, sym, ap, ◌∙◌, subst, arith}
+use Rattle.std.specs.Prelude.{Option, None, Ok, Err}
 use Rattle.kp_shared.specs.declared.kept.Life.{Life}
 use Rattle.kp_event.specs.declared.event.NodeEvent.{NodeEvent}
 use Rattle.kp_event.specs.declared.thought.Thought.{Thought}
@@ -10,7 +9,6 @@ use Rattle.kp_shared.specs.declared.task.Task.TheVariants as task
 use Rattle.kp_shared.specs.declared.task.Answer.TheVariants as answer
 use Rattle.kp_event.specs.declared.fail.KeptFail.TheVariants as fail
 use Rattle.kp_event.specs.declared.fail.Why.{Why}
-use Rattle.kp_event.specs.declared.fail.Why.TheVariants as why
 use Rattle.kp_shared.specs.TaskSteps.{Answered, IsTaskStep}
 use Rattle.kp_shared.specs.TaskLaws.{DiesOnce, Fits, Histories, Keeps, KeepsAll, death_after, last_thought}
 

@@ -1,5 +1,5 @@
 -- The messages of one thought more.
-use Rattle.std.proofs.Common.{◌≡◌, ℕ, List, [], ◌∷◌, ◌++◌, sym, ap, ◌∙◌, subst}
+use Rattle.std.proofs.Common.{ℕ, List, [], ◌∷◌, ◌++◌, sym, ap, ◌∙◌, subst}
 use Rattle.kp_links.specs.declared.link.LinkSeat.{LinkSeat}
 use Rattle.kp_event.specs.declared.thought.Thought.{Thought}
 use Rattle.kp_shared.specs.declared.peers.Peers.{Peers}

@@ -1,23 +1,21 @@
 -- What the calls that make a turn tell, from what their callees tell.
 use Rattle.std.proofs.Common.{◌≡◌, ◌⊎◌, inl, inr, ℕ, List, [], ◌∷◌, ◌++◌, sym, refl, ap, ◌∙◌, subst, append_assoc}
-use Rattle.std.specs.Prelude.{Bool, true, false, MatchResult, Result, Ok, Err}
+use Rattle.std.specs.Prelude.{true, false, MatchResult, Result, Ok, Err}
 use Rattle.kp_turn.specs.TurnSeats.{view}
 use Rattle.kp_event.specs.declared.event.NodeEventKind.{NodeEventKind}
 use Rattle.kp_event.specs.declared.event.NodeEventKind.TheVariants as kind
 use Rattle.kp_event.specs.declared.thought.Thought.{Thought}
-use Rattle.kp_event.specs.declared.fail.KeptFail.{KeptFail}
 use Rattle.kp_shared.specs.declared.plan.Step.{Step}
 use Rattle.kp_shared.specs.declared.plan.Step.TheVariants as step
 use Rattle.kp_shared.specs.declared.refusal.Refusal.{Refusal}
 use Rattle.kp_shared.specs.declared.turns.Glance.{Glance}
-use Rattle.kp_shared.specs.declared.task.Task.{Task}
 use Rattle.kp_shared.specs.declared.task.Task.TheVariants as task
 use Rattle.kp_shared.specs.declared.task.Answer.TheVariants as answer
-use Rattle.kp_shared.specs.Tasks.{Did, Each, InTime, IsThink, Went, finds_none, flushed, is_none_left, thoughts_in, waiting}
-use Rattle.kp_shared.specs.Plans.{Goes, IsCut, IsMore, IsOne, IsTurn, Part, Stops, Takes}
-use Rattle.kp_shared.specs.Nodes.{Breaks, Does, FlushTells, Opens, ThinkTells, TurnSeatIn, ViewIn, Whole}
+use Rattle.kp_shared.specs.Tasks.{Did, Each, InTime, IsThink, Went, finds_none, thoughts_in, waiting}
+use Rattle.kp_shared.specs.Plans.{Goes, IsMore, IsOne, Part, Stops, Takes}
+use Rattle.kp_shared.specs.Nodes.{Breaks, FlushTells, Opens, ThinkTells, TurnSeatIn}
 use Rattle.kp_shared.specs.Turns.{KeepTells, MoreTells, OneTells, PlanTells, StepTells, TurnBroken, TurnDone}
-use Rattle.kp_shared.proofs.Lists.{append_nil, does_both, does_none, each_both, flushed_both, thoughts_both, waiting_both}
+use Rattle.kp_shared.proofs.Lists.{append_nil, does_both, each_both, flushed_both, thoughts_both, waiting_both}
 use Rattle.kp_shared.proofs.Turning.{breaks_behind, breaks_one, goes_more, opens_both, opens_none, opens_one, stops_at}
 
 module _ {M : Type 0} where

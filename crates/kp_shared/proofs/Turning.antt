@@ -1,11 +1,9 @@
 -- Tasks behind tasks, within a turn.
-use Rattle.std.proofs.Common.{◌≡◌, ◌⊎◌, inl, inr, ℕ, List, [], ◌∷◌, ◌++◌, sym, refl, ap, ◌∙◌, subst, ⊎_elim, append_assoc}
-use Rattle.std.specs.Prelude.{Result, Ok, Err}
-use Rattle.kp_turn.specs.TurnView.{IsFull}
+use Rattle.std.proofs.Common.{◌≡◌, inl, inr, ℕ, List, [], ◌∷◌, ◌++◌, sym, refl, ap, ◌∙◌, subst, ⊎_elim, append_assoc}
+use Rattle.std.specs.Prelude.{Ok, Err}
 use Rattle.kp_event.specs.declared.event.NodeEventKind.{NodeEventKind}
 use Rattle.kp_event.specs.declared.thought.Thought.{Thought}
 use Rattle.kp_event.specs.declared.fail.KeptFail.{KeptFail}
-use Rattle.kp_event.specs.declared.fail.KeptFail.TheVariants as fail
 use Rattle.kp_event.specs.Kinds.{row_of_kind, row_of_said}
 use Rattle.kp_shared.specs.declared.plan.Step.{Step}
 use Rattle.kp_shared.specs.declared.refusal.Refusal.{Refusal}

@@ -1,5 +1,5 @@
 -- How a worker's task is refused.
-use Rattle.std.specs.Prelude.{◌≡◌, ⊤}
+use Rattle.std.specs.Prelude.{⊤}
 use Rattle.kp_event.specs.declared.fail.KeptFail.{KeptFail}
 use Rattle.kp_event.specs.declared.fail.KeptFail.TheVariants as fail
 use Rattle.kp_event.specs.declared.fail.Why.TheVariants as why

@@ -1,5 +1,5 @@
 -- A seat of a node that threads share, and seats that are split off it (this project's own).
-use Rattle.std.specs.Prelude.{◌≡◌, ◌≤◌, ◌+◌, ◌==◌, ◌&&◌, not, ℕ, Bool, true, false, nat_lt, List, [], Option, Some, None, ⊤}
+use Rattle.std.specs.Prelude.{◌≡◌, Option, Some, None, ⊤}
 use Rattle.std.specs.declared.snapshot.Snapshot.{Snapshot}
 use Rattle.kp_turn.specs.declared.turn.TurnOf.{TurnOf}
 use Rattle.kp_turn.specs.declared.view.TurnSlot.{TurnSlot}
@@ -20,14 +20,6 @@ use Rattle.kp_shared.specs.TaskSteps.{Answered}
 use Rattle.kp_shared.specs.Posts.{HasSeats}
 use Rattle.kp_shared.specs.Nodes.{IsNodeTurn, TurnSeatIn, ViewIn}
 
--- the member of this number, counted from 1, is a peer of the node
-abbrev pub is_peer : ℕ → ℕ → ℕ → Bool
-is_peer number members p = nat_lt p (members + 1) && not (p == number)
-
-abbrev pub is_there : {A : Type 0} → Option A → Bool
-is_there None = false
-is_there (Some a) = true
-
 -- there is nothing for any member
 pub record AreBlank {A : Type 0} (peers : Peers A) : Type 0 where
   pub one : peers.one ≡ None
@@ -37,16 +29,6 @@ pub record AreBlank {A : Type 0} (peers : Peers A) : Type 0 where
   pub five : peers.five ≡ None
   pub six : peers.six ≡ None
   pub seven : peers.seven ≡ None
-
--- there is something exactly for each peer
-pub record HasPeers {A : Type 0} (number members : ℕ) (peers : Peers A) : Type 0 where
-  pub one : is_there peers.one ≡ is_peer number members 1
-  pub two : is_there peers.two ≡ is_peer number members 2
-  pub three : is_there peers.three ≡ is_peer number members 3
-  pub four : is_there peers.four ≡ is_peer number members 4
-  pub five : is_there peers.five ≡ is_peer number members 5
-  pub six : is_there peers.six ≡ is_peer number members 6
-  pub seven : is_there peers.seven ≡ is_peer number members 7
 
 module _ {M : Type 0} where
   -- a seat that has sent and taken nothing, where there is one
@@ -86,12 +68,11 @@ abbrev pub NodeSeatIn : Type 0 → Type 0 → Type 0
 NodeSeatIn S M = NodeSeatOf (TurnSeatIn S M) (LinkSeat M)
 
 module _ {S M : Type 0} where
-  -- the seat is one of this node, which was alive at the beginning and has a link exactly to each peer
+  -- the seat is one of this node, which was alive at the beginning
   pub record IsNodeSeatOf {Q : Type 0} (life : S → Life) (node : NodeOf (TurnOf (TurnSlot S (Task M) (Answered M)) (ViewIn S M) (Snapshot S) Q) (Links M)) (seat : NodeSeatIn S M) : Type 0 where
     pub of_turn : IsNodeTurn life node.turn seat.turn
     pub of_stop : IsStopSeatOf node.stop seat.stop
     pub of_links : HasSeats node.links seat.links
-    pub peered : HasPeers node.number node.members node.links
 
   -- a seat was split off: it has seen as much, and did, set, sent and took nothing
   pub record HasSplit (s s' new : NodeSeatIn S M) : Type 0 where

@@ -1,5 +1,5 @@
 -- What the steps of a running node make of every history.
-use Rattle.std.specs.Prelude.{◌≡◌, ◌≤◌, ℕ, List, [], ◌∷◌, Option, Some, None, Result, Ok, Err, ⊤}
+use Rattle.std.specs.Prelude.{◌≡◌, ◌≤◌, ℕ, List, [], ◌∷◌, Option, Some, None, Ok, Err, ⊤}
 use Rattle.kp_turn.specs.History.{Runs}
 use Rattle.kp_shared.specs.declared.kept.Life.{Life}
 use Rattle.kp_event.specs.declared.event.NodeEvent.{NodeEvent}

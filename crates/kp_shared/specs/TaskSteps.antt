@@ -1,10 +1,9 @@
 -- The steps of a running node: what a Think and a Flush do to it (this project's own).
-use Rattle.std.specs.Prelude.{◌≡◌, ◌<◌, ◌+◌, ℕ, Option, Some, None, Result, Ok, Err, ⊤}
+use Rattle.std.specs.Prelude.{◌≡◌, ◌<◌, ◌+◌, ℕ, Some, None, Result, Ok, Err}
 use Rattle.kp_event.specs.declared.event.NodeEvent.{NodeEvent}
 use Rattle.kp_event.specs.declared.thought.Thought.{Thought}
 use Rattle.kp_event.specs.declared.fail.KeptFail.{KeptFail}
 use Rattle.kp_event.specs.declared.fail.KeptFail.TheVariants as fail
-use Rattle.kp_event.specs.declared.fail.Why.{Why}
 use Rattle.kp_event.specs.declared.fail.Why.TheVariants as why
 use Rattle.kp_event.specs.Kinds.{row_of_kind, row_of_said}
 use Rattle.kp_shared.specs.declared.kept.Life.{Life}

@@ -1,8 +1,6 @@
 -- What a worker asks of its node, in tasks, and what may leave of it (this project's own).
-use Rattle.std.specs.Prelude.{◌≡◌, ℕ, List, [], ◌∷◌, ◌++◌, Bool, true, false, Option, Some, None, Result, Ok, Err, ⊤, IsTrue}
-use Rattle.kp_event.specs.declared.event.NodeEvent.{NodeEvent}
+use Rattle.std.specs.Prelude.{◌≡◌, ℕ, List, [], ◌∷◌, ◌++◌, Bool, true, false, Option, Some, None, Ok, Err, ⊤, IsTrue}
 use Rattle.kp_event.specs.declared.event.NodeEventKind.{NodeEventKind}
-use Rattle.kp_event.specs.declared.event.NodeEventKind.TheVariants as kind
 use Rattle.kp_event.specs.declared.thought.Thought.{Thought}
 use Rattle.kp_event.specs.declared.said.Said.{Said}
 use Rattle.kp_event.specs.declared.said.Said.TheVariants as said
@@ -10,7 +8,6 @@ use Rattle.kp_event.specs.declared.said.FedWord.TheVariants as word
 use Rattle.kp_event.specs.Kinds.{row_of_kind, row_of_said}
 use Rattle.kp_shared.specs.declared.task.Task.{Task}
 use Rattle.kp_shared.specs.declared.task.Task.TheVariants as task
-use Rattle.kp_shared.specs.declared.task.Answer.{Answer}
 use Rattle.kp_shared.specs.declared.task.Answer.TheVariants as answer
 use Rattle.kp_shared.specs.TaskSteps.{Answered}
 

@@ -1,11 +1,13 @@
 // A node that threads share: a turn, a stop word and a link to each peer.
+ghost use Rattle.kp_shared.specs.Members.{HasPeers};
+
 use crate::kept::{Kept, Served};
 use crate::peers::Peers;
 use crate::told::Told;
 use kp_links::{LinkSeat, Links};
 use kp_turn::{StopSeat, StopWord, Turn, TurnSeat};
 
-/// A turn, a stop word and links. `SharedNode` is this type at the types of a node.
+/// A turn, a stop word and a link exactly to each peer. `SharedNode` is this type at the types of a node.
 #[derive(Drop)]
 pub struct NodeOf<T, L> {
     /// The number of the node.
@@ -17,6 +19,7 @@ pub struct NodeOf<T, L> {
     pub turn: T,
     pub stop: StopWord,
     pub links: Peers<L>,
+    ghost peered: { HasPeers number members links },
 }
 
 /// A seat of a turn, of a stop word and of links. `NodeSeat` is this type at the types of a node.

@@ -1,7 +1,7 @@
 // The links of a shared node, for the threads that take of them.
 ghost use Rattle.std.specs.Prelude.{◌≡◌};
 ghost use Rattle.std.specs.Option.{option_copied};
-ghost use Rattle.kp_shared.specs.Members.{OthersKeep, of_member};
+ghost use Rattle.kp_shared.specs.Members.{OthersKeep, is_linked, is_there, of_member};
 ghost use Rattle.kp_shared.specs.Posts.{HasSeat};
 ghost use Rattle.kp_shared.specs.Sharing.{IsNodeSeatOf, Splits};
 
@@ -11,10 +11,11 @@ use crate::sharing::split_link;
 use kp_links::{LinkSeat, Links};
 
 impl<K: Kept> SharedNode<K> {
-    /// Lends the link to a peer. None exactly where the number is no peer's: there is a link exactly to each peer.
+    /// Lends the link to a peer. None exactly where the number is no peer's.
     #[tactic(auto, unfolding(crate::specs::Members::of_member))]
     pub fn link(&self, to: u8) -> Option<&Links<K::Mail>>
-        ensures { option_copied result ≡ of_member to self.now.links }
+        ensures link { option_copied result ≡ of_member to self.now.links }
+        ensures there { is_there result ≡ is_linked self.now.number self.now.members to }
     {
         match to {
             1 => self.links.one.as_ref(),
@@ -35,6 +36,7 @@ impl<K: Kept> SharedNode<K> {
         requires { IsNodeSeatOf (λ s. K.life s.kept) self.now seat.old }
         ensures seat { IsNodeSeatOf (λ s. K.life s.kept) self.now seat.new }
         ensures new { HasSeat (of_member to self.now.links) result }
+        ensures there { is_there result ≡ is_linked self.now.number self.now.members to }
         ensures views { Splits (of_member to seat.old.links) (of_member to seat.new.links) result }
         ensures others { OthersKeep to seat.old.links seat.new.links }
         ensures same { (seat.new.turn ≡ seat.old.turn) × (seat.new.stop ≡ seat.old.stop) }

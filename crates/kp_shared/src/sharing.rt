@@ -5,8 +5,9 @@ ghost use Rattle.kp_turn.specs.StopRule.{with_set};
 ghost use Rattle.kp_turn.specs.StopSeats.{stop_view};
 ghost use Rattle.kp_turn.specs.TurnSeats.{view};
 ghost use Rattle.kp_turn.specs.TurnView.{SeesMore, own};
+ghost use Rattle.kp_shared.specs.Members.{HasPeers, is_peer, is_there};
 ghost use Rattle.kp_shared.specs.Posts.{HasSeat, HasSeats};
-ghost use Rattle.kp_shared.specs.Sharing.{AreBlank, HasPeers, HasSplit, IsBlank, IsFirstSeat, IsNewSeat, IsNodeSeatOf, SplitSeats, Splits, is_peer, is_there};
+ghost use Rattle.kp_shared.specs.Sharing.{AreBlank, HasSplit, IsBlank, IsFirstSeat, IsNewSeat, IsNodeSeatOf, SplitSeats, Splits};
 ghost use Rattle.kp_shared.specs.TaskSteps.{IsAlive};
 
 use crate::kept::{Kept, Served};

@@ -1,4 +1,4 @@
-use Rattle.std.proofs.Common.{◌≡◌, [], refl, inl}
+use Rattle.std.proofs.Common.{refl, inl}
 use Rattle.kp_shared.specs.declared.plan.Step.TheVariants as step
 use Rattle.kp_shared.specs.Plans.{Takes}
 use Rattle.kp_shared.proofs.TurnCalls.{left_out, maybe_beat}

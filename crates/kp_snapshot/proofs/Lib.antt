@@ -17,3 +17,8 @@ pub mod Parts
 pub mod Refilled
 pub mod Filling
 pub mod Sound
+pub mod RowWrites
+pub mod Keyed
+pub mod PartWrites
+pub mod Prefixed
+pub mod HasImages

@@ -57,7 +57,7 @@ below_by b n = by (nat_lt b n) (eqb b n)
     by false true = refl
     by false false = refl
 
-numbers_rise : (before : List Numbered) (n : ℕ) → list_all (λ b. nat_lt b n) (numbers_of before) ≡ list_all (λ (b : Numbered). is_lt (nat_cmp b.0 n)) before
+pub numbers_rise : (before : List Numbered) (n : ℕ) → list_all (λ b. nat_lt b n) (numbers_of before) ≡ list_all (λ (b : Numbered). is_lt (nat_cmp b.0 n)) before
 numbers_rise [] n = refl
 numbers_rise (b ∷ before) n = λ i. below_by b.0 n i && numbers_rise before n i
 

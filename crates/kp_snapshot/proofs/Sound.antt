@@ -186,8 +186,9 @@ module _ (next : ℕ) where
 
 -- ---- the state
 
-some_key : (m : FinMap nat_cmp Session) (owner : ℕ) → list_any (λ id. id == owner) (numbers_of (fin.entries m)) ≡ true → is_some (fin.get m owner) ≡ true
-some_key m owner e = fin.contains_key-keys m owner ∙ sym (alike (numbers_of (fin.entries m))) ∙ e
+-- a session is there where its number is among those of the sessions
+pub key_test : (m : FinMap nat_cmp Session) (owner : ℕ) → is_some (fin.get m owner) ≡ list_any (λ id. id == owner) (numbers_of (fin.entries m))
+key_test m owner = fin.contains_key-keys m owner ∙ sym (alike (numbers_of (fin.entries m)))
   where
     swap : (id : ℕ) → (id == owner) ≡ eq_by_cmp nat_cmp owner id
     swap id = (let turn : (id == owner) ≡ (owner == id) = grind (arith, nat_tests) in turn) ∙ sym (unsigned_tied owner id)
@@ -195,6 +196,9 @@ some_key m owner e = fin.contains_key-keys m owner ∙ sym (alike (numbers_of (f
     alike : (ids : List ℕ) → list_any (λ id. id == owner) ids ≡ list_any (eq_by_cmp nat_cmp owner) ids
     alike [] = refl
     alike (id ∷ ids) = λ i. swap id i || alike ids i
+
+some_key : (m : FinMap nat_cmp Session) (owner : ℕ) → list_any (λ id. id == owner) (numbers_of (fin.entries m)) ≡ true → is_some (fin.get m owner) ≡ true
+some_key m owner e = key_test m owner ∙ e
 
 is_there : (o : Option Session) → is_some o ≡ true → IsSome o
 is_there (Some x) e = refl

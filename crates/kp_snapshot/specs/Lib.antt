@@ -6,3 +6,4 @@ pub mod Ups
 pub mod Knowing
 pub mod Nodes
 pub mod Filled
+pub mod Written

@@ -4,7 +4,7 @@ ghost use Rattle.std.specs.Prelude.{◌≡◌, IfOk, IsTrue};
 ghost use Rattle.kp_model.specs.Good.{IsSound};
 ghost use Rattle.kp_model.specs.Grammar.{is_number};
 ghost use Rattle.kp_jute.specs.Form.{IsBytes, whole};
-ghost use Rattle.kp_snapshot.specs.Snapshots.{Snapshot, images, Reads, IsImageOf};
+ghost use Rattle.kp_snapshot.specs.Snapshots.{Snapshot, images, snapshot_in, IsImage, Reads, IsImageOf};
 
 use crate::check::check;
 use crate::fail::ImageFail;
@@ -74,6 +74,14 @@ impl Image {
             index: self.index,
             term: self.term,
         })
+    }
+
+    /// The image that the bytes, which spell one of this index and this term, are, with their memory.
+    pub(crate) fn of_spelling(bytes: Vec<u8>, index: u64, term: u64) -> Image
+        requires { IsImage bytes.items index term }
+        ensures { result ≡ snapshot_in bytes.items }
+    {
+        Image { bytes, index, term }
     }
 
     /// The image that the bytes are, to their end, with their memory.

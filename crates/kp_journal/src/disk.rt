@@ -1,7 +1,7 @@
 //! Reading a disk.
 
-ghost use Rattle.std.specs.Prelude.{ℕ, List, Some, ◌≡◌, ◌+◌, ◌^◌, ◌<◌, ◌≤◌, length, take, drop, IfOk, IfSome, IsErr, IsErrOf};
-ghost use Rattle.kp_io.specs.Faults.{Rose};
+ghost use Rattle.std.specs.Prelude.{ℕ, List, Some, ◌≡◌, ◌+◌, ◌^◌, ◌<◌, ◌≤◌, length, take, drop, IfOk, OnOk, IfSome, IsErrOf};
+ghost use Rattle.kp_io.specs.Faults.{HasCause, Rose};
 ghost use Rattle.kp_journal.specs.declared.fail.JournalFail.TheVariants as fail;
 ghost use Rattle.kp_journal.specs.Heads.{open_generation};
 ghost use Rattle.kp_journal.specs.Answers.{IsOfReading};
@@ -20,6 +20,7 @@ pub(crate) fn read_disk<D: Disk>(
 ) -> Result<Vec<u8>, JournalFail>
     ensures whole { IfOk result (λ v. IfSome (D.held disk.old) (λ xs. v.items ≡ xs)) }
     ensures fault { IsErrOf result fail.DiskFault → Rose (D.faults disk.old) (D.faults disk.new) }
+    ensures quiet { OnOk result (D.faults disk.new ≡ D.faults disk.old) }
     ensures only { (f : JournalFail) → IsErrOf result f → IsOfReading f }
     ensures keeps { D.held disk.new ≡ D.held disk.old }
     ensures past { D.past disk.new ≡ D.past disk.old }
@@ -27,7 +28,7 @@ pub(crate) fn read_disk<D: Disk>(
 {
     let len = disk.len(moments)?;
     let mut bytes = zeros(alloc, len as usize)?;
-    let filled = match fill(disk, &mut bytes, moments) {
+    let filled = match read_front(disk, &mut bytes, moments) {
         Ok(filled) => filled,
         Err(_) => {
             drop(bytes);
@@ -45,12 +46,17 @@ fn zeros(alloc: Global, count: usize) -> Result<Vec<u8>, NoMemory>
     Ok(vec![in alloc; 0u8; count]?)
 }
 
-// Copies the first bytes of the disk to the front of `into`, as many as there are and fit, and answers how many.
-fn fill<D: Disk>(disk: &mut D, into: &mut [u8], moments: &mut u64) -> Result<usize, Failed>
+/// Copies the first bytes of the disk to the front of `into`, as many as there are and fit, and answers how many. Takes no
+/// memory.
+pub fn read_front<D: Disk>(
+    disk: &mut D,
+    into: &mut [u8],
+    moments: &mut u64,
+) -> Result<usize, Failed>
     ensures bytes { IfOk result (λ n. IfSome (D.held disk.old) (λ xs. take n into.new ≡ take (length into.old) xs)) }
     ensures bound { IfOk result (λ n. n ≤ length into.new) }
     ensures len { length into.new ≡ length into.old }
-    ensures fault { IsErr result → Rose (D.faults disk.old) (D.faults disk.new) }
+    ensures cause { HasCause (D.faults disk.old) (D.faults disk.new) result }
     ensures keeps { D.held disk.new ≡ D.held disk.old }
     ensures past { D.past disk.new ≡ D.past disk.old }
     ensures moment { moments.old ≤ moments.new }
@@ -70,13 +76,13 @@ fn fill<D: Disk>(disk: &mut D, into: &mut [u8], moments: &mut u64) -> Result<usi
 /// more than the head.
 pub fn open_generation<D: Disk>(disk: &mut D, moments: &mut u64) -> Result<Option<u64>, Failed>
     ensures open { IfOk result (λ o. IfSome (D.held disk.old) (λ xs. o ≡ open_generation xs)) }
-    ensures fault { IsErr result → Rose (D.faults disk.old) (D.faults disk.new) }
+    ensures cause { HasCause (D.faults disk.old) (D.faults disk.new) result }
     ensures keeps { D.held disk.new ≡ D.held disk.old }
     ensures past { D.past disk.new ≡ D.past disk.old }
     ensures moment { moments.old ≤ moments.new }
 {
     let mut front = [0; HEAD_LEN + 1];
-    let filled = fill(disk, &mut front, moments)?;
+    let filled = read_front(disk, &mut front, moments)?;
     Ok(generation_in(&front[..filled]))
 }
 

@@ -58,6 +58,7 @@ impl Journal {
         ensures stands { IfOk result (λ j. IfSome (D.held disk.new) (StandsFor j)) }
         ensures no_full { (len : ℕ) → IsErrOf result (fail.Full len) → ⊥ }
         ensures fault { IsErrOf result fail.DiskFault → Rose (D.faults disk.old) (D.faults disk.new) }
+        ensures quiet { OnOk result (D.faults disk.new ≡ D.faults disk.old) }
         ensures keeps { D.held disk.new ≡ D.held disk.old }
         ensures past { D.past disk.new ≡ D.past disk.old }
         ensures moment { moments.old ≤ moments.new }

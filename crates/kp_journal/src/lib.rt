@@ -9,7 +9,7 @@ mod head;
 mod journal;
 mod promises;
 
-pub use disk::open_generation;
+pub use disk::{open_generation, read_front};
 pub use fail::JournalFail;
 pub use gate::{append, open_gate, stage};
 pub use head::{Head, write_head};

@@ -1,6 +1,6 @@
 use Rattle.std.proofs.Common.{◌∙◌, arith}
 use Rattle.kp_journal.proofs.Whole.{filled_more}
-use Rattle.kp_journal.proofs.disk.fill.Goals as goal
+use Rattle.kp_journal.proofs.disk.read_front.Goals as goal
 
 pub loop-filled-preserved : goal.loop-filled-preserved
 loop-filled-preserved g c = record {

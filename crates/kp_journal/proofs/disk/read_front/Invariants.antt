@@ -1,6 +1,6 @@
 use Rattle.std.proofs.Common.{◌≡◌, ◌≤◌, ◌-◌, length, take}
 use Rattle.std.specs.Prelude.{IfSome}
-use Rattle.kp_journal.proofs.disk.fill.Given as goal
+use Rattle.kp_journal.proofs.disk.read_front.Given as goal
 
 abbrev pub invariant-loop-filled : goal.invariant-loop-filled
 invariant-loop-filled g l = record {

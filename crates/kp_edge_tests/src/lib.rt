@@ -13,6 +13,8 @@ mod load;
 #[cfg(test)]
 mod region;
 #[cfg(test)]
+mod script;
+#[cfg(test)]
 mod seats;
 #[cfg(test)]
 mod texts;

@@ -1,0 +1,4 @@
+pub mod Events
+pub mod Lines
+pub mod Spelling
+pub mod Messages

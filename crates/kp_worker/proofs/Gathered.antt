@@ -1,7 +1,7 @@
 -- The events of a turn that come from outside, one behind the other.
 use Rattle.std.proofs.Common.{◌≡◌, ◌+◌, ◌≤◌, ℕ, Bool, true, false, List, [], ◌∷◌, ◌++◌, length, refl, sym, ap, ◌∙◌, subst, append_assoc, arith}
 use Rattle.std.proofs.lemmas.List.{length-append}
-use Rattle.std.specs.Prelude.{Option, Some, None}
+use Rattle.std.specs.Prelude.{Option}
 use Rattle.kp_event.specs.declared.event.NodeEventKind.{NodeEventKind}
 use Rattle.kp_event.specs.declared.event.NodeEventKind.TheVariants as kind
 use Rattle.kp_shared.proofs.Lists.{append_nil}
@@ -9,10 +9,8 @@ use Rattle.kp_worker.specs.declared.heard.Heard.{Heard}
 use Rattle.kp_worker.specs.declared.heard.Heard.TheVariants as heard
 use Rattle.kp_worker.specs.declared.heard.LineState.{LineState}
 use Rattle.kp_worker.specs.declared.heard.LineState.TheVariants as line
-use Rattle.kp_worker.specs.declared.inbox.Arrived.{Arrived}
-use Rattle.kp_worker.specs.Lists.{joined}
 use Rattle.kp_worker.specs.Outside.{Outside, Receives, Stays, Tells, is_there, shut}
-use Rattle.kp_worker.specs.Events.{IsOwn, Passes, asked, asked_by, delivered, draw_in, draws, fed, fed_in, mail_alone, mail_in}
+use Rattle.kp_worker.specs.Events.{IsOwn, asked, asked_by, delivered, drain_in, drains, draw_in, draws, fed, fed_in, mail_alone, mail_in}
 use Rattle.kp_worker.specs.Turns.{AddsHarmless, Harmless}
 use Rattle.kp_worker.specs.Calls.{Adds, Gathers}
 use Rattle.kp_worker.proofs.Lists.{joined_both, none_more, passes_both, receives_both, receives_none, tells_both, tells_none}
@@ -48,7 +46,7 @@ module _ {M : Type 0} (o0 o1 : Outside) where
     adds_later ks conn t s = (
       [],
       sym (append_nil ks),
-      record { takes = ((conn, heard.Later) ∷ [], t, refl); receives = ([], receives_none box, refl); lives = s.state; accepts = none_more 0; waits = s.waits; faults = s.faults },
+      record { takes = ((conn, heard.Later) ∷ [], t, refl); receives = ([], receives_none box, refl); lives = s.state; accepts = none_more 0; undrained = refl; waits = s.waits; faults = s.faults },
     )
 
     pub adds_bytes : (ks ks2 : List (NodeEventKind M)) (conn : ℕ) (bytes : List ℕ) → Tells o0 o1 ((conn, heard.Bytes bytes) ∷ []) [] → Stays o0 o1 → is_there (o0.state conn) ≡ true
@@ -61,6 +59,7 @@ module _ {M : Type 0} (o0 o1 : Outside) where
         receives = ([], receives_none box, refl);
         lives = λ c. ((λ same. subst (λ (x : ℕ). o0.state x ≡ line.Open) same (open_of (o0.state conn) bytes there over)), s.state c);
         accepts = none_more 0;
+        undrained = refl;
         waits = s.waits;
         faults = s.faults;
       },
@@ -70,7 +69,7 @@ module _ {M : Type 0} (o0 o1 : Outside) where
   gathers_of b0 b1 n ks a = subst (λ (x : List (NodeEventKind M)). Gathers o0 o1 b0 b1 n x) (sym a.1) a.2
 
   pub adds_less : (b0 b1 : ℕ → Option (List M)) (m n : ℕ) (ks ks2 : List (NodeEventKind M)) → m ≤ n → Adds o0 o1 b0 b1 m ks ks2 → Adds o0 o1 b0 b1 n ks ks2
-  adds_less b0 b1 m n ks ks2 few a = (a.0, a.1, record { takes = a.2.takes; receives = a.2.receives; lives = a.2.lives; accepts = at_most (length (draws a.0)) m n a.2.accepts few; waits = a.2.waits; faults = a.2.faults })
+  adds_less b0 b1 m n ks ks2 few a = (a.0, a.1, record { takes = a.2.takes; receives = a.2.receives; lives = a.2.lives; accepts = at_most (length (draws a.0)) m n a.2.accepts few; undrained = a.2.undrained; waits = a.2.waits; faults = a.2.faults })
 
 module _ {M : Type 0} (o0 o1 o2 : Outside) (b0 b1 b2 : ℕ → Option (List M)) where
   pub gathers_both : (m n : ℕ) (xs ys : List (NodeEventKind M)) → Gathers o0 o1 b0 b1 m xs → Gathers o1 o2 b1 b2 n ys → Gathers o0 o2 b0 b2 (m + n) (xs ++ ys)
@@ -89,6 +88,7 @@ module _ {M : Type 0} (o0 o1 o2 : Outside) (b0 b1 b2 : ℕ → Option (List M)) 
     );
     lives = λ c. passes_both c (o0.state c) (o1.state c) (o2.state c) xs ys (a.lives c) (b.lives c);
     accepts = subst (λ (k : ℕ). k ≤ m + n) (sym (ap length (joined_both draw_in xs ys) ∙ length-append (draws xs) (draws ys))) (few_both (length (draws xs)) (length (draws ys)) m n a.accepts b.accepts);
+    undrained = joined_both drain_in xs ys ∙ ap (λ (l : List ℕ). l ++ drains ys) a.undrained ∙ b.undrained;
     waits = b.waits ∙ a.waits;
     faults = b.faults ∙ a.faults;
   }
@@ -109,6 +109,7 @@ module _ {M : Type 0} where
       receives = ([], receives_none box, refl);
       lives = λ c. ((λ same. subst (λ (x : ℕ). is_there (o0.state x) ≡ true) same there), shuts c ∙ ap (λ (x : LineState). shut c x conn) (s.state c));
       accepts = none_more 0;
+      undrained = refl;
       waits = waits ∙ s.waits;
       faults = faults ∙ s.faults;
     },
@@ -116,16 +117,16 @@ module _ {M : Type 0} where
 
   module _ (o : Outside) where
     pub adds_none : (box : ℕ → Option (List M)) (ks ks2 : List (NodeEventKind M)) → ks2 ≡ ks → Adds o o box box 0 ks ks2
-    adds_none box ks ks2 e = ([], e ∙ sym (append_nil ks), record { takes = ([], tells_none o, refl); receives = ([], receives_none box, refl); lives = λ c. refl; accepts = none_more 0; waits = refl; faults = refl })
+    adds_none box ks ks2 e = ([], e ∙ sym (append_nil ks), record { takes = ([], tells_none o, refl); receives = ([], receives_none box, refl); lives = λ c. refl; accepts = none_more 0; undrained = refl; waits = refl; faults = refl })
 
     pub adds_accept : (box : ℕ → Option (List M)) (ks ks2 : List (NodeEventKind M)) (draw : List ℕ) → ks2 ≡ ks ++ kind.Accept draw ∷ [] → Adds o o box box 1 ks ks2
-    adds_accept box ks ks2 draw e = (kind.Accept draw ∷ [], e, record { takes = ([], tells_none o, refl); receives = ([], receives_none box, refl); lives = λ c. (tt, refl); accepts = at_most 1 1 1 same same; waits = refl; faults = refl })
+    adds_accept box ks ks2 draw e = (kind.Accept draw ∷ [], e, record { takes = ([], tells_none o, refl); receives = ([], receives_none box, refl); lives = λ c. (tt, refl); accepts = at_most 1 1 1 same same; undrained = refl; waits = refl; faults = refl })
 
     pub adds_quiet : (b0 b1 : ℕ → Option (List M)) (ks ks2 : List (NodeEventKind M)) → Receives b0 b1 [] → ks2 ≡ ks → Adds o o b0 b1 0 ks ks2
-    adds_quiet b0 b1 ks ks2 r e = ([], e ∙ sym (append_nil ks), record { takes = ([], tells_none o, refl); receives = ([], r, refl); lives = λ c. refl; accepts = none_more 0; waits = refl; faults = refl })
+    adds_quiet b0 b1 ks ks2 r e = ([], e ∙ sym (append_nil ks), record { takes = ([], tells_none o, refl); receives = ([], r, refl); lives = λ c. refl; accepts = none_more 0; undrained = refl; waits = refl; faults = refl })
 
     pub adds_mail : (b0 b1 : ℕ → Option (List M)) (ks ks2 : List (NodeEventKind M)) (from : ℕ) (m : M) → Receives b0 b1 ((from, m) ∷ []) → ks2 ≡ ks ++ kind.Deliver m ∷ [] → Adds o o b0 b1 0 ks ks2
-    adds_mail b0 b1 ks ks2 from m r e = (kind.Deliver m ∷ [], e, record { takes = ([], tells_none o, refl); receives = ((from, m) ∷ [], r, refl); lives = λ c. (tt, refl); accepts = none_more 0; waits = refl; faults = refl })
+    adds_mail b0 b1 ks ks2 from m r e = (kind.Deliver m ∷ [], e, record { takes = ([], tells_none o, refl); receives = ((from, m) ∷ [], r, refl); lives = λ c. (tt, refl); accepts = none_more 0; undrained = refl; waits = refl; faults = refl })
 
     pub own_harmless : (k : NodeEventKind M) → IsOwn k → Harmless o (k ∷ [])
     own_harmless kind.Timeout own = record { feeds = refl; delivers = refl; accepts = refl; lives = λ c. (tt, refl) }
@@ -139,11 +140,23 @@ module _ {M : Type 0} where
     own_harmless (kind.Hangup c) own = absurd own
     own_harmless (kind.Drain c) own = absurd own
 
+    own_undrained : (k : NodeEventKind M) → IsOwn k → drains (k ∷ []) ≡ []
+    own_undrained kind.Timeout own = refl
+    own_undrained kind.Beat own = refl
+    own_undrained kind.CommitOne own = refl
+    own_undrained kind.ExpireDue own = refl
+    own_undrained kind.Snapshot own = refl
+    own_undrained (kind.Accept d) own = absurd own
+    own_undrained (kind.Deliver m) own = absurd own
+    own_undrained (kind.Client c b) own = absurd own
+    own_undrained (kind.Hangup c) own = absurd own
+    own_undrained (kind.Drain c) own = absurd own
+
     pub adds_own : (box : ℕ → Option (List M)) (ks ks2 : List (NodeEventKind M)) (k : NodeEventKind M) → IsOwn k → ks2 ≡ ks ++ k ∷ [] → Adds o o box box 0 ks ks2
     adds_own box ks ks2 k own e = let h = own_harmless k own in (
       k ∷ [],
       e,
-      record { takes = ([], tells_none o, h.feeds); receives = ([], receives_none box, h.delivers); lives = h.lives; accepts = subst (λ (l : List (List ℕ)). length l ≤ 0) (sym h.accepts) (none_more 0); waits = refl; faults = refl },
+      record { takes = ([], tells_none o, h.feeds); receives = ([], receives_none box, h.delivers); lives = h.lives; accepts = subst (λ (l : List (List ℕ)). length l ≤ 0) (sym h.accepts) (none_more 0); undrained = own_undrained k own; waits = refl; faults = refl },
     )
 
     pub harmless_none : Harmless {M = M} o []

@@ -1,6 +1,5 @@
 -- Lists that are joined, and what they say of each connection.
-use Rattle.std.proofs.Common.{◌≡◌, ◌+◌, ◌≤◌, ℕ, List, [], ◌∷◌, ◌++◌, length, refl, sym, ap, ◌∙◌, subst, append_assoc, arith}
-use Rattle.std.proofs.lemmas.List.{length-append}
+use Rattle.std.proofs.Common.{◌≡◌, ◌+◌, ◌≤◌, ℕ, List, [], ◌∷◌, ◌++◌, refl, sym, ap, ◌∙◌, subst, append_assoc, arith}
 use Rattle.std.specs.Prelude.{Option, Some, None, ◌==◌}
 use Rattle.kp_event.specs.declared.event.NodeEventKind.{NodeEventKind}
 use Rattle.kp_shared.specs.Tasks.{Did}
@@ -9,9 +8,9 @@ use Rattle.kp_worker.specs.declared.heard.Heard.{Heard}
 use Rattle.kp_worker.specs.declared.heard.LineState.{LineState}
 use Rattle.kp_worker.specs.declared.note.Note.{Note}
 use Rattle.kp_worker.specs.Lists.{Begins, Grew, about, bytes_to, joined, where_true}
-use Rattle.kp_worker.specs.Outside.{Outside, Receives, Stays, Tells}
+use Rattle.kp_worker.specs.Outside.{Outside, Receives, Tells}
 use Rattle.kp_worker.specs.Notes.{after_note, one_where, opening, openings, reached}
-use Rattle.kp_worker.specs.Events.{Allowed, Passes, after_kind, kinds}
+use Rattle.kp_worker.specs.Events.{Passes, after_kind}
 use Rattle.kp_worker.specs.Calls.{Lives}
 use Rattle.kp_worker.specs.Notes as of_note
 

@@ -1,7 +1,7 @@
 -- What leaves of a turn, one thought behind the other.
-use Rattle.std.proofs.Common.{◌≡◌, ◌+◌, ◌≤◌, ℕ, zero, suc, Bool, true, false, List, [], ◌∷◌, ◌++◌, length, refl, sym, ap, ◌∙◌, subst, append_assoc, arith}
+use Rattle.std.proofs.Common.{◌≡◌, ◌+◌, ◌≤◌, ℕ, zero, suc, List, [], ◌∷◌, ◌++◌, length, refl, sym, ap, ◌∙◌, subst, arith}
 use Rattle.std.proofs.lemmas.List.{length-append}
-use Rattle.std.specs.Prelude.{Option, Some, None, Ok, Err}
+use Rattle.std.specs.Prelude.{Option, None, Ok, Err}
 use Rattle.kp_links.specs.declared.link.LinkSeat.{LinkSeat}
 use Rattle.kp_event.specs.declared.event.NodeEventKind.{NodeEventKind}
 use Rattle.kp_event.specs.declared.event.NodeEventKind.TheVariants as kind
@@ -17,12 +17,10 @@ use Rattle.kp_shared.specs.Tasks.{Did, Each}
 use Rattle.kp_shared.proofs.Lists.{append_nil}
 use Rattle.kp_shared.proofs.Mailing.{posts_more}
 use Rattle.kp_worker.specs.declared.heard.LineState.{LineState}
-use Rattle.kp_worker.specs.declared.note.Mark.{Mark}
 use Rattle.kp_worker.specs.declared.note.Note.{Note}
-use Rattle.kp_worker.specs.Lists.{joined}
 use Rattle.kp_worker.specs.Outside.{Outside, Stays, Tells}
 use Rattle.kp_worker.specs.Events.{draw_in, draws, kind_in, kinds}
-use Rattle.kp_worker.specs.Notes.{after_note, ending, ends, mail_of, mails, note_at, notes, one_where, opened_by, opening, openings, opens, piece_of, pieces, reached}
+use Rattle.kp_worker.specs.Notes.{after_note, ending, ends, mail_of, mails, note_at, notes, one_where, opened_by, opening, openings, opens, piece_of, pieces}
 use Rattle.kp_worker.specs.Turns.{IsDone, IsTurn}
 use Rattle.kp_worker.specs.Calls.{Releases, ReleasesOne}
 use Rattle.kp_worker.proofs.Lists.{joined_both, none_more, openings_both, reached_both, tells_both, tells_none, tells_still}

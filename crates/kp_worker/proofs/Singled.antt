@@ -6,7 +6,7 @@ use Rattle.kp_event.specs.declared.event.NodeEventKind.TheVariants as kind
 use Rattle.kp_shared.proofs.Lists.{append_nil}
 use Rattle.kp_worker.specs.declared.heard.Heard.{Heard}
 use Rattle.kp_worker.specs.declared.heard.Heard.TheVariants as heard
-use Rattle.kp_worker.specs.Lists.{joined, where_true}
+use Rattle.kp_worker.specs.Lists.{where_true}
 use Rattle.kp_worker.specs.Events.{asked, asked_by, fed, fed_in}
 use Rattle.kp_worker.specs.Singles.{EachByItself, answers_of, fed_to, own_in}
 use Rattle.kp_worker.proofs.Lists.{joined_both}

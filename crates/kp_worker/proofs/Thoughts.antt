@@ -1,5 +1,5 @@
 -- The tasks of a turn, one behind the other.
-use Rattle.std.proofs.Common.{◌≡◌, ◌⊎◌, inl, inr, ℕ, Bool, true, false, List, [], ◌∷◌, ◌++◌, sym, refl, ap, ◌∙◌, subst, ⊎_elim, append_assoc}
+use Rattle.std.proofs.Common.{◌≡◌, inl, inr, ℕ, Bool, true, false, List, [], ◌∷◌, ◌++◌, sym, refl, ap, ◌∙◌, subst, ⊎_elim, append_assoc}
 use Rattle.std.specs.Prelude.{Option, Some, None, Result, Ok, Err}
 use Rattle.kp_turn.specs.TurnSeats.{view}
 use Rattle.kp_event.specs.declared.event.NodeEventKind.{NodeEventKind}
@@ -13,16 +13,16 @@ use Rattle.kp_shared.specs.declared.task.Task.{Task}
 use Rattle.kp_shared.specs.declared.task.Task.TheVariants as task
 use Rattle.kp_shared.specs.declared.task.Answer.TheVariants as answer
 use Rattle.kp_shared.specs.Tasks.{Did, Each, InTime, IsThink, kind_of}
-use Rattle.kp_shared.specs.Nodes.{Does, FlushTells, ThinkAsks, ThinkTells, TurnSeatIn, ViewIn}
+use Rattle.kp_shared.specs.Nodes.{Does, FlushTells, ThinkAsks, TurnSeatIn, ViewIn}
 use Rattle.kp_shared.specs.Turns.{KeepTells}
 use Rattle.kp_shared.proofs.Lists.{append_nil, does_both, does_none, each_both}
 use Rattle.kp_worker.specs.declared.note.Mark.{Mark}
 use Rattle.kp_worker.specs.declared.note.Note.{Note}
-use Rattle.kp_worker.specs.Lists.{Begins, joined}
+use Rattle.kp_worker.specs.Lists.{Begins}
 use Rattle.kp_worker.specs.Outside.{Outside}
 use Rattle.kp_worker.specs.Events.{kind_in, kinds}
 use Rattle.kp_worker.specs.Notes.{is_end, mark_of, note_at, notes}
-use Rattle.kp_worker.specs.Turns.{AllTells, BehindTells, Breaks, CommitTells, CutTells, FitsKind, FrontTells, Harmless, IsCommits, IsDone, IsMore, IsTurn, KeptTells, MoreTells, OneTells, OpenTells, Refused, Thinks, answer_of, ends_commits}
+use Rattle.kp_worker.specs.Turns.{AllTells, BehindTells, Breaks, CommitTells, CutTells, FitsKind, FrontTells, Harmless, IsCommits, IsDone, IsMore, IsTurn, KeptTells, MoreTells, OneTells, OpenTells, Thinks, answer_of, ends_commits}
 use Rattle.kp_worker.proofs.Lists.{begins_behind, begins_early, joined_both}
 use Rattle.kp_worker.proofs.Gathered.{harmless_both, harmless_none, own_harmless}
 

@@ -1,13 +1,12 @@
 -- Whole turns, one behind the other, and the end of a call.
-use Rattle.std.proofs.Common.{◌≡◌, ◌⊎◌, inl, inr, ◌≤◌, ◌+◌, ℕ, Bool, true, List, [], ◌∷◌, ◌++◌, length, sym, refl, ap, ◌∙◌, subst, ⊎_elim, append_assoc}
-use Rattle.std.specs.Prelude.{Option, Some, None, Result, Ok, Err}
+use Rattle.std.proofs.Common.{◌≡◌, inl, inr, ℕ, true, List, [], ◌∷◌, ◌++◌, sym, refl, ap, ◌∙◌, subst, ⊎_elim}
+use Rattle.std.specs.Prelude.{Option, Result, Ok, Err}
 use Rattle.kp_turn.specs.TurnSeats.{view}
 use Rattle.kp_turn.specs.StopSeats.{stop_view}
 use Rattle.kp_turn.specs.StopRule.{with_read}
 use Rattle.kp_links.specs.declared.link.LinkSeat.{LinkSeat}
 use Rattle.kp_io.specs.Faults.{one_more}
 use Rattle.kp_event.specs.declared.event.NodeEventKind.{NodeEventKind}
-use Rattle.kp_event.specs.declared.fail.KeptFail.{KeptFail}
 use Rattle.kp_shared.specs.declared.peers.Peers.{Peers}
 use Rattle.kp_shared.specs.declared.refusal.Refusal.{Refusal}
 use Rattle.kp_shared.specs.Posts.{Posts}
@@ -22,11 +21,10 @@ use Rattle.kp_worker.specs.declared.heard.Heard.{Heard}
 use Rattle.kp_worker.specs.declared.heard.LineState.{LineState}
 use Rattle.kp_worker.specs.declared.note.Note.{Note}
 use Rattle.kp_worker.specs.Ends.{end_for}
-use Rattle.kp_worker.specs.Lists.{joined}
-use Rattle.kp_worker.specs.Outside.{Outside, Receives, Tells}
+use Rattle.kp_worker.specs.Outside.{Outside, Tells}
 use Rattle.kp_worker.specs.Notes.{mail_of, mails, note_at, notes, piece_of, pieces}
 use Rattle.kp_worker.specs.Events.{Passes, asked, asked_by, delivered, fed, fed_in, kind_in, kinds, mail_alone, mail_in}
-use Rattle.kp_worker.specs.Turns.{CutTells, Harmless, IsTurn, KeptTells, Refused}
+use Rattle.kp_worker.specs.Turns.{Harmless, IsTurn, KeptTells, Refused}
 use Rattle.kp_worker.specs.Calls.{CallTells, Cuts, EndsSo, Gathers, LeaveTells, Lives, Releases, TurnTells, Works, flat}
 use Rattle.kp_worker.proofs.Lists.{joined_both, lives_both, passes_both, receives_both, receives_none, tells_both, tells_none, tells_still}
 

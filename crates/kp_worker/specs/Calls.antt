@@ -23,7 +23,7 @@ use Rattle.kp_worker.specs.Ends.{end_for, end_of_fail}
 use Rattle.kp_worker.specs.Lists.{Begins, joined}
 use Rattle.kp_worker.specs.Outside.{Outside, Receives, Tells}
 use Rattle.kp_worker.specs.Notes.{ends, mails, notes, one_where, openings, opens, pieces, reached}
-use Rattle.kp_worker.specs.Events.{Passes, asked, delivered, draws, fed, kinds, mail_alone}
+use Rattle.kp_worker.specs.Events.{Passes, asked, delivered, drains, draws, fed, kinds, mail_alone}
 use Rattle.kp_worker.specs.Turns.{CutTells, Harmless, IsDone, IsTurn}
 
 -- all tasks of these turns
@@ -43,6 +43,7 @@ module _ {M : Type 0} (o o' : Outside) (box box' : ℕ → Option (List M)) wher
     pub receives : (ms : List (ℕ × M)) × Receives box box' ms × (delivered ks ≡ mail_alone ms)
     pub lives : (c : ℕ) → Passes c (o.state c) ks (o'.state c)
     pub accepts : length (draws ks) ≤ new
+    pub undrained : drains ks ≡ []
     pub waits : o'.waits ≡ o.waits
     pub faults : o'.faults ≡ o.faults
 

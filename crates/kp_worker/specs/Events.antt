@@ -1,5 +1,5 @@
 -- Which events the outside of a node asks for (this project's own).
-use Rattle.std.specs.Prelude.{◌≡◌, ℕ, Bool, true, List, [], ◌∷◌, ◌++◌, ⊤}
+use Rattle.std.specs.Prelude.{◌≡◌, ℕ, true, List, [], ◌∷◌, ⊤}
 use Rattle.kp_event.specs.declared.event.NodeEventKind.{NodeEventKind}
 use Rattle.kp_event.specs.declared.event.NodeEventKind.TheVariants as kind
 use Rattle.kp_shared.specs.declared.task.Task.{Task}
@@ -81,6 +81,22 @@ draw_in kind.Snapshot = []
 
 abbrev pub draws : {M : Type 0} → List (NodeEventKind M) → List (List ℕ)
 draws ks = joined draw_in ks
+
+-- the connection that is drained
+abbrev pub drain_in : {M : Type 0} → NodeEventKind M → List ℕ
+drain_in (kind.Drain c) = c ∷ []
+drain_in (kind.Accept d) = []
+drain_in (kind.Deliver m) = []
+drain_in (kind.Client c b) = []
+drain_in (kind.Hangup c) = []
+drain_in kind.Timeout = []
+drain_in kind.Beat = []
+drain_in kind.CommitOne = []
+drain_in kind.ExpireDue = []
+drain_in kind.Snapshot = []
+
+abbrev pub drains : {M : Type 0} → List (NodeEventKind M) → List ℕ
+drains ks = joined drain_in ks
 
 -- a Client of a connection comes only while it is open, a Hangup and a Drain only while the node has it
 abbrev pub Allowed : {M : Type 0} → ℕ → LineState → NodeEventKind M → Type 0

@@ -1,5 +1,5 @@
 -- What a thought of a turn lets leave, and what it makes of its connection (this project's own).
-use Rattle.std.specs.Prelude.{◌≡◌, ◌+◌, ℕ, Bool, true, false, ◌||◌, List, [], ◌∷◌, ◌++◌, Option, Some, None, Ok, Err, ⊤}
+use Rattle.std.specs.Prelude.{◌+◌, ℕ, Bool, true, false, ◌||◌, List, [], ◌∷◌, Option, Some, None, Ok, Err}
 use Rattle.kp_event.specs.declared.event.NodeEventKind.{NodeEventKind}
 use Rattle.kp_event.specs.declared.event.NodeEventKind.TheVariants as kind
 use Rattle.kp_event.specs.declared.thought.Thought.{Thought}
@@ -28,6 +28,16 @@ mark_of kind.Beat = mark.Other
 mark_of kind.CommitOne = mark.Other
 mark_of kind.ExpireDue = mark.Other
 mark_of kind.Snapshot = mark.Other
+
+-- the connection that is drained
+abbrev pub drained_by : Mark → List ℕ
+drained_by (mark.Drained c) = c ∷ []
+drained_by (mark.Fed c) = []
+drained_by mark.Other = []
+
+-- the connections that are drained
+abbrev pub all_drained : {M : Type 0} → List (Note M) → List ℕ
+all_drained ns = joined (λ n. drained_by n.mark) ns
 
 -- a task as a note: its connection and its thought, or none where it was refused
 abbrev pub note_at : {M : Type 0} → Did M → List (Note M)

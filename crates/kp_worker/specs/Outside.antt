@@ -44,6 +44,11 @@ is_there line.Gone = false
 is_there line.Open = true
 is_there line.Over = true
 
+-- the node has all of these connections
+abbrev pub AllThere : (ℕ → LineState) → List ℕ → Type 0
+AllThere state [] = ⊤
+AllThere state (c ∷ cs) = (is_there (state c) ≡ true) × AllThere state cs
+
 abbrev pub put_where : Bool → LineState → LineState → LineState
 put_where true x s = x
 put_where false x s = s

@@ -3,7 +3,7 @@ use Rattle.std.specs.Prelude.{◌≡◌, ℕ, ◌==◌, List, [], ◌∷◌}
 use Rattle.kp_event.specs.declared.event.NodeEventKind.{NodeEventKind}
 use Rattle.kp_event.specs.declared.event.NodeEventKind.TheVariants as kind
 use Rattle.kp_worker.specs.declared.heard.Heard.{Heard}
-use Rattle.kp_worker.specs.Lists.{about, joined, where_true}
+use Rattle.kp_worker.specs.Lists.{joined, where_true}
 use Rattle.kp_worker.specs.Events.{asked, fed}
 
 -- a Client or a Hangup of one connection

@@ -18,7 +18,7 @@ use Rattle.kp_shared.specs.Tasks.{Did, Each, InTime, IsThink, is_none_left}
 use Rattle.kp_shared.specs.Ends.{IsUntorn}
 use Rattle.kp_shared.specs.Nodes.{Does, TurnSeatIn, ViewIn}
 use Rattle.kp_worker.specs.declared.note.Note.{Note}
-use Rattle.kp_worker.specs.Lists.{Begins, joined}
+use Rattle.kp_worker.specs.Lists.{Begins}
 use Rattle.kp_worker.specs.Outside.{Outside}
 use Rattle.kp_worker.specs.Events.{Passes, delivered, draws, fed, kinds}
 use Rattle.kp_worker.specs.Notes.{is_end, mark_of, notes}

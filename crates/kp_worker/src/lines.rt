@@ -34,8 +34,9 @@ pub trait Lines {
         ensures over { (sees self.old).state conn ≡ Over → result ≡ End }
         ensures stays { Stays (sees self.old) (sees self.new) };
 
-    /// Hands bytes out to a connection. What its sink doesn't take now is kept for it.
+    /// Hands bytes out to a connection that the node has. What its sink doesn't take now is kept for it.
     fn hand(&mut self, conn: u64, bytes: &[u8])
+        requires { is_there ((sees self.old).state conn) ≡ true }
         ensures tells { Tells (sees self.old) (sees self.new) [] ((conn, bytes.now) ∷ []) }
         ensures stays { Stays (sees self.old) (sees self.new) };
 

@@ -2,8 +2,8 @@
 ghost use Rattle.std.specs.Prelude.{◌≡◌, ◌<◌, ◌≤◌, ◌+◌, ℕ, []};
 ghost use Rattle.kp_shared.specs.Posts.{HasSeats, Posts};
 ghost use Rattle.kp_worker.specs.Calls.{Releases, ReleasesOne};
-ghost use Rattle.kp_worker.specs.Notes.{drained_at, ending, ends, ends_at, mail_of, mails, one_where, opened_by, opening, openings, opens, piece_of};
-ghost use Rattle.kp_worker.specs.Outside.{Stays, Tells};
+ghost use Rattle.kp_worker.specs.Notes.{all_drained, drained_at, drained_by, ending, ends, ends_at, mail_of, mails, one_where, opened_by, opening, openings, opens, piece_of};
+ghost use Rattle.kp_worker.specs.Outside.{AllThere, Stays, Tells};
 
 use crate::lines::Lines;
 use crate::note::{Mark, Note};
@@ -29,6 +29,7 @@ fn admit_opened<L: Lines>(lines: &mut L, said: &Said)
 
 // Hands out what was drained.
 fn hand_drained<L: Lines>(lines: &mut L, mark: Mark, said: &Said)
+    requires { AllThere (L.sees lines.old).state (drained_by mark) }
     ensures tells { Tells (L.sees lines.old) (L.sees lines.new) [] (drained_at mark said.now) }
     ensures stays { Stays (L.sees lines.old) (L.sees lines.new) }
 {
@@ -53,7 +54,8 @@ fn end_where<L: Lines>(lines: &mut L, conn: Option<u64>)
 
 // Lets what was said leave: a connection that it opened gets its number, what it drained is handed out, and one that it ends ends.
 fn release_said<L: Lines>(lines: &mut L, mark: Mark, said: Said)
-    requires { one_where (opened_by said) ≤ (L.sees lines.old).waits }
+    requires waits { one_where (opened_by said) ≤ (L.sees lines.old).waits }
+    requires there { AllThere (L.sees lines.old).state (drained_by mark) }
     ensures { ReleasesOne (L.sees lines.old) (L.sees lines.new) (drained_at mark said) (opened_by said) (ends_at mark said) }
 {
     admit_opened(lines, &said);
@@ -72,6 +74,7 @@ fn release_one<R: Wait, M: Carried, L: Lines>(
 )
     requires seats { HasSeats links.now seats.old }
     requires waits { one_where (opening note.thought) ≤ (L.sees lines.old).waits }
+    requires there { AllThere (L.sees lines.old).state (drained_by note.mark) }
     ensures seats { HasSeats links.now seats.new }
     ensures posts { Posts M.receiver (mail_of note.thought) seats.old seats.new }
     ensures releases { ReleasesOne (L.sees lines.old) (L.sees lines.new) (piece_of note.mark note.thought) (opening note.thought) (ending note.mark note.thought) }
@@ -96,6 +99,7 @@ pub(crate) fn release<R: Wait, M: Carried, L: Lines>(
 )
     requires seats { HasSeats links.now seats.old }
     requires waits { openings notes.items ≤ (L.sees lines.old).waits }
+    requires there { AllThere (L.sees lines.old).state (all_drained notes.items) }
     ensures seats { HasSeats links.now seats.new }
     ensures posts { Posts M.receiver (mails notes.items) seats.old seats.new }
     ensures releases { Releases (L.sees lines.old) (L.sees lines.new) notes.items }

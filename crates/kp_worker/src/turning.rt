@@ -1,8 +1,8 @@
 // One turn of a node's worker.
-ghost use Rattle.std.specs.Prelude.{◌≤◌, length};
+ghost use Rattle.std.specs.Prelude.{◌≡◌, ◌≤◌, [], length};
 ghost use Rattle.kp_shared.specs.Sharing.{IsNodeSeatOf};
 ghost use Rattle.kp_worker.specs.Calls.{LeaveTells, TurnTells};
-ghost use Rattle.kp_worker.specs.Events.{draws};
+ghost use Rattle.kp_worker.specs.Events.{drains, draws};
 
 use crate::ends::{NodeEnd, end_of};
 use crate::gathering::gather;
@@ -32,6 +32,7 @@ fn think_and_leave<R: Wait, K: Kept, L: Lines, C: Clock, P: Pace>(
 ) -> Result<(), NodeEnd>
     requires seat { IsNodeSeatOf (λ s. K.life s.kept) node.now seat.old }
     requires waits { length (draws kinds.items) ≤ (L.sees lines.old).waits }
+    requires undrained { drains kinds.items ≡ [] }
     ensures seat { IsNodeSeatOf (λ s. K.life s.kept) node.now seat.new }
     ensures tells { LeaveTells (L.sees lines.old) (L.sees lines.new) (C.may clock.now) K.Mail.receiver seat.old seat.new kinds.items result }
 {

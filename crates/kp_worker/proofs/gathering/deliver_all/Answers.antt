@@ -1,4 +1,4 @@
-use Rattle.std.proofs.Common.{refl, rules}
+use Rattle.std.proofs.Common.{refl}
 use Rattle.kp_worker.proofs.Gathered.{adds_both, adds_none}
 use Rattle.kp_worker.proofs.gathering.deliver_all.Goals as goal
 

@@ -1,4 +1,4 @@
-use Rattle.std.proofs.Common.{[], length, subst, sym, ap, ◌∙◌, rules, ◌+◌}
+use Rattle.std.proofs.Common.{[], length, subst, rules, ◌+◌}
 use Rattle.kp_worker.specs.Calls.{Adds}
 use Rattle.kp_worker.proofs.Gathered.{adds_both, gathers_of, adds_less}
 use Rattle.kp_worker.proofs.gathering.gather.Goals as goal

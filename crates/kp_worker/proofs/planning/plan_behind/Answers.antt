@@ -1,4 +1,4 @@
-use Rattle.std.proofs.Common.{[], subst}
+use Rattle.std.proofs.Common.{subst}
 use Rattle.kp_worker.specs.Turns.{AddsHarmless}
 use Rattle.kp_worker.proofs.Gathered.{all_harmless, more_both}
 use Rattle.kp_worker.proofs.planning.plan_behind.Goals as goal

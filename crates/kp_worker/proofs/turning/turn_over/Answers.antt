@@ -1,4 +1,3 @@
-use Rattle.std.proofs.Common.{length}
 use Rattle.kp_worker.proofs.WholeTurns.{turn_ends}
 use Rattle.kp_worker.proofs.turning.turn_over.Goals as goal
 

@@ -4,3 +4,9 @@ pub mod Standing
 pub mod Ready
 pub mod Making
 pub mod Refusals
+pub mod Replaying
+pub mod Lifting
+pub mod Settling
+pub mod Looking
+pub mod Earlier
+pub mod Beginning

@@ -177,3 +177,59 @@ ready_made j h rs image body (Some xs) new is fits text run based short was =
     let here : StandsFor (unread h (27 + length (spelled rs))) (filled h body (closed_head xs)) =
     (new_journal h rs, subst (λ (k : ℕ). journal_of k (filled h body (closed_head xs)) ≡ Ok (new_journal h rs)) (sym (ap (λ (k : Head). k.node) is)) n.is, refl) in
     subst (λ (o : Option (List ℕ)). IfSome o (StandsFor (unread h (27 + length (spelled rs))))) (sym was) here
+
+-- ---- the first slot of a blank home
+
+none_chosen : (p q r : Bool) → cond p (Some (q && r)) (cond q (Some true) None) ≡ None → (p ≡ false) × (q ≡ false)
+none_chosen true q r e = none_bool _ _ (sym e)
+none_chosen false true r e = none_bool _ _ (sym e)
+none_chosen false false r e = (refl, refl)
+
+to_none : (p q r : Bool) → p ≡ false → q ≡ false → cond p (Some (q && r)) (cond q (Some true) None) ≡ None
+to_none false false r a b = refl
+to_none true q r a b = false_true _ (sym a)
+to_none false true r a b = false_true _ (sym b)
+
+pub blank_loses : (a b : List ℕ) → choice a b ≡ None → Loses 0 a
+blank_loses a b e opens = false_true _ (sym (none_chosen (is_open a) (is_open b) (nat_lt (generation a) (generation b)) e).0 ∙ opens)
+
+loses_all : (c : List ℕ) → Loses 0 c → is_open c ≡ false
+loses_all c loses = by_test (is_open c) refl
+  where
+    by_test : (t : Bool) → is_open c ≡ t → is_open c ≡ false
+    by_test true e = absurd (omega (arith, loses e))
+    by_test false e = e
+
+pub first_slot : (h : Head) (rs : List Record) (body xs : List ℕ) → IsHead h → h.image_len ≡ 0 → body ≡ spelled rs → IsRun rs → has_base rs ≡ false → length body < 2 ^ 32 → NewSlot h.node h rs [] (filled h body (closed_head xs))
+first_slot h rs body xs fits no_image text run based short = record {
+  is = subst (λ (l : List ℕ). journal_of h.node (filled h l (closed_head xs)) ≡ Ok (new_journal h rs)) (sym text)
+      (finished_is h rs (closed_head xs) fits run based (subst (λ (l : List ℕ). length l < 2 ^ 32) text short) (shut_some (closed_head xs) (closed_is_shut xs)));
+  len = no_image;
+}
+
+pub blank_made : (node : ℕ) (b c : Bytes4) (h : Head) (rs : List Record) (f : List ℕ) → choice b.j0 b.j1 ≡ None → NewSlot node h rs [] f → c.j0 ≡ f → c.i0 ≡ [] → c.j1 ≡ b.j1
+    → (choice c.j0 c.j1 ≡ Some false) × (stands node c ≡ Some (Ok (made h [] rs)))
+blank_made node b c h rs f none n j0 i0 j1 =
+    let shut = none_chosen (is_open b.j0) (is_open b.j1) (nat_lt (generation b.j0) (generation b.j1)) none in
+    let chosen : choice c.j0 c.j1 ≡ Some false = ap (λ (l : List ℕ). choice c.j0 l) j1 ∙ ap (λ (l : List ℕ). choice l b.j1) j0
+    ∙ to_false (is_open f) (is_open b.j1) (nat_lt (generation f) (generation b.j1)) (opened_of node f (new_journal h rs) n.is).0 (λ e. false_true _ (sym shut.1 ∙ e)) in (
+      chosen,
+      ap (λ (o : Option Bool). stands_by node o c) chosen ∙ ap (λ (l : List ℕ). Some (slot_of 0 (journal_of node l) c.i0)) j0 ∙ ap (λ (l : List ℕ). Some (slot_of 0 (journal_of node f) l)) i0
+          ∙ ap Some (new_stands node 0 h rs [] f n),
+    )
+
+pub blank_either : (node : ℕ) (b c : Bytes4) (h : Head) (rs : List Record) (f : List ℕ) → choice b.j0 b.j1 ≡ None → NewSlot node h rs [] f → IsOldOrNew 0 f [] c.j0 c.i0 → c.j1 ≡ b.j1
+    → (stands node c ≡ None) ⊎ (stands node c ≡ Some (Ok (made h [] rs)))
+blank_either node b c h rs f none n (inl loses) j1 =
+    let shut = none_chosen (is_open b.j0) (is_open b.j1) (nat_lt (generation b.j0) (generation b.j1)) none in
+    let chosen : choice c.j0 b.j1 ≡ None = to_none (is_open c.j0) (is_open b.j1) (nat_lt (generation c.j0) (generation b.j1)) (loses_all c.j0 loses) shut.1 in
+    inl (ap (λ (o : Option Bool). stands_by node o c) (ap (λ (l : List ℕ). choice c.j0 l) j1 ∙ chosen))
+blank_either node b c h rs f none n (inr new) j1 = inr (blank_made node b c h rs f none n new.0 new.1 j1).1
+
+pub first_ready : (h : Head) (rs : List Record) (body : List ℕ) (old new : Option (List ℕ)) → IsHead h → h.image_len ≡ 0 → body ≡ spelled rs → IsRun rs → has_base rs ≡ false → length body < 2 ^ 32
+    → new ≡ option_map (λ xs. filled h body (closed_head xs)) old → IfSome new (StandsFor (unread h (27 + length (spelled rs))))
+first_ready h rs body None new fits no_image text run based short was = subst (λ (o : Option (List ℕ)). IfSome o (StandsFor (unread h (27 + length (spelled rs))))) (sym was) tt
+first_ready h rs body (Some xs) new fits no_image text run based short was =
+    let n = first_slot h rs body xs fits no_image text run based short in
+    let here : StandsFor (unread h (27 + length (spelled rs))) (filled h body (closed_head xs)) = (new_journal h rs, n.is, refl) in
+    subst (λ (o : Option (List ℕ)). IfSome o (StandsFor (unread h (27 + length (spelled rs))))) (sym was) here

@@ -1,7 +1,11 @@
 ghost use Rattle.std.specs.Prelude.{◌≡◌};
 ghost use Rattle.kp_homes.specs.Stands.{fail_in};
+ghost use Rattle.kp_homes.specs.declared.fail.HomeFail.TheVariants as home_fail;
 
+use kp_io::Failed;
 use kp_journal::JournalFail;
+use kp_model::NoMemory;
+use std::alloc::AllocError;
 
 /// Why there is no home, or nothing was added to one. The slots 0 and 1 are the journals, 2 and 3
 /// the images.
@@ -16,6 +20,30 @@ pub enum HomeFail {
     Full { slot: u64, len: u64 },
     /// Memory ran out.
     NoMemory,
+}
+
+impl From<Failed> for HomeFail {
+    ghost from_gives = { λ _ e. e ≡ home_fail.DiskFault };
+
+    fn from(_failed: Failed) -> HomeFail {
+        HomeFail::DiskFault
+    }
+}
+
+impl From<NoMemory> for HomeFail {
+    ghost from_gives = { λ _ e. e ≡ home_fail.NoMemory };
+
+    fn from(_refused: NoMemory) -> HomeFail {
+        HomeFail::NoMemory
+    }
+}
+
+impl From<AllocError> for HomeFail {
+    ghost from_gives = { λ _ e. e ≡ home_fail.NoMemory };
+
+    fn from(_refused: AllocError) -> HomeFail {
+        HomeFail::NoMemory
+    }
 }
 
 /// The refusal of a journal as one of its slot.

@@ -8,6 +8,7 @@ ghost use Rattle.kp_journal.specs.Heads.{IsHead};
 ghost use Rattle.kp_journal.specs.Journals.{unread};
 ghost use Rattle.kp_journal.specs.declared.fail.JournalFail.TheVariants as journal_fail;
 ghost use Rattle.kp_homes.specs.declared.fail.HomeFail.TheVariants as home_fail;
+ghost use Rattle.kp_homes.specs.Opening.{IsEarlier};
 ghost use Rattle.kp_homes.specs.Stands.{Bytes4, Stand, Stands, IsAtRest, IsReady, StandsForEither, StandsForOnly, stands, choice, with_more, made, next_head, slot_number, IsOfWriting};
 
 use crate::fail::{HomeFail, fail_in};
@@ -68,8 +69,10 @@ impl<H: Disk> Home<H> {
         requires no_base { has_base records.now ≡ false }
         ensures crash { (b : Bytes4) (v : Stand) → Stands H.held H.past self.old.disks self.old.second self.old.journal b v → HasRoom self.new.disks.moments
             → StandsForEither self.old.journal.head.node H.past self.old.disks.moments self.new.disks v (with_more records.now v) }
+        ensures earlier { (b : Bytes4) (v : Stand) → Stands H.held H.past self.old.disks self.old.second self.old.journal b v → HasRoom self.new.disks.moments → IsEarlier H.past self.old.disks self.new.disks }
         ensures rest { (b : Bytes4) (v : Stand) → Stands H.held H.past self.old.disks self.old.second self.old.journal b v → HasRoom self.new.disks.moments
             → OnOk result ((c : Bytes4) × Stands H.held H.past self.new.disks self.new.second self.new.journal c (with_more records.now v)) }
+        ensures head { OnOk result (self.new.journal.head ≡ self.old.journal.head) }
         ensures ready { OnOk result (IsReady self.new.second (H.held self.new.disks.j0) (H.held self.new.disks.j1) self.new.journal) }
         ensures full { (len : ℕ) → IsErrOf result (journal_fail.Full len) ↔ ((2 ^ 40 < len) × (len ≡ self.old.journal.gate + 6 + length (spelled records.now))) }
         ensures full_same { (len : ℕ) → IsErrOf result (journal_fail.Full len) → self.new ≡ self.old }
@@ -98,10 +101,12 @@ impl<H: Disk> Home<H> {
         requires no_base { has_base records.now ≡ false }
         ensures crash { (b : Bytes4) (v : Stand) → Stands H.held H.past self.old.disks self.old.second self.old.journal b v → HasRoom self.new.disks.moments
             → StandsForEither self.old.journal.head.node H.past self.old.disks.moments self.new.disks v (with_more records.now v) }
+        ensures earlier { (b : Bytes4) (v : Stand) → Stands H.held H.past self.old.disks self.old.second self.old.journal b v → HasRoom self.new.disks.moments → IsEarlier H.past self.old.disks self.new.disks }
         ensures rest { (b : Bytes4) (v : Stand) → Stands H.held H.past self.old.disks self.old.second self.old.journal b v → HasRoom self.new.disks.moments
             → OnOk result ((c : Bytes4) × Stands H.held H.past self.new.disks self.new.second self.new.journal c (with_more records.now v)) }
         ensures kept { (b : Bytes4) (v : Stand) → Stands H.held H.past self.old.disks self.old.second self.old.journal b v → HasRoom self.new.disks.moments
             → OnOk result (StandsForOnly self.new.journal.head.node H.past self.new.disks.moments self.new.disks (with_more records.now v)) }
+        ensures head { OnOk result (self.new.journal.head ≡ self.old.journal.head) }
         ensures ready { OnOk result (IsReady self.new.second (H.held self.new.disks.j0) (H.held self.new.disks.j1) self.new.journal) }
         ensures full { (slot len : ℕ) → IsErrOf result (home_fail.Full slot len) ↔ ((2 ^ 40 < len) × (len ≡ self.old.journal.gate + 6 + length (spelled records.now)) × (slot ≡ slot_number self.old.second)) }
         ensures full_same { (slot len : ℕ) → IsErrOf result (home_fail.Full slot len) → self.new ≡ self.old }
@@ -124,6 +129,7 @@ impl<H: Disk> Home<H> {
         requires next { head ≡ next_head self.old.journal.head (length image.now) }
         ensures crash { (b : Bytes4) (v : Stand) → Stands H.held H.past self.old.disks self.old.second self.old.journal b v → HasRoom self.new.disks.moments → self.old.journal.head.generation < 2 ^ 62
             → StandsForEither self.old.journal.head.node H.past self.old.disks.moments self.new.disks v (made head image.now records.now) }
+        ensures earlier { (b : Bytes4) (v : Stand) → Stands H.held H.past self.old.disks self.old.second self.old.journal b v → HasRoom self.new.disks.moments → IsEarlier H.past self.old.disks self.new.disks }
         ensures rest { (b : Bytes4) (v : Stand) → Stands H.held H.past self.old.disks self.old.second self.old.journal b v → HasRoom self.new.disks.moments → self.old.journal.head.generation < 2 ^ 62
             → OnOk result ((c : Bytes4) × IsAtRest H.held H.past self.new.disks c × (choice c.j0 c.j1 ≡ Some (not self.old.second)) × (stands self.old.journal.head.node c ≡ Some (Ok (made head image.now records.now)))) }
         ensures second { self.new.second ≡ self.old.second }
@@ -165,6 +171,7 @@ impl<H: Disk> Home<H> {
         requires { has_base rest.now ≡ false }
         ensures crash { (b : Bytes4) (v : Stand) → Stands H.held H.past self.old.disks self.old.second self.old.journal b v → HasRoom self.new.disks.moments → self.old.journal.head.generation < 2 ^ 62
             → StandsForEither self.old.journal.head.node H.past self.old.disks.moments self.new.disks v (made (next_head self.old.journal.head (length image.now)) image.now rest.now) }
+        ensures earlier { (b : Bytes4) (v : Stand) → Stands H.held H.past self.old.disks self.old.second self.old.journal b v → HasRoom self.new.disks.moments → IsEarlier H.past self.old.disks self.new.disks }
         ensures rest { (b : Bytes4) (v : Stand) → Stands H.held H.past self.old.disks self.old.second self.old.journal b v → HasRoom self.new.disks.moments → self.old.journal.head.generation < 2 ^ 62
             → OnOk result ((c : Bytes4) × Stands H.held H.past self.new.disks self.new.second self.new.journal c (made (next_head self.old.journal.head (length image.now)) image.now rest.now)) }
         ensures kept { (b : Bytes4) (v : Stand) → Stands H.held H.past self.old.disks self.old.second self.old.journal b v → HasRoom self.new.disks.moments → self.old.journal.head.generation < 2 ^ 62

@@ -7,6 +7,7 @@ use Rattle.kp_journal.specs.Journals.{Journaled, journal_of, with_batch, IsWithO
 use Rattle.kp_journal.proofs.Staging.{some_of}
 use Rattle.kp_homes.specs.Stands.{Bytes4, stands, with_more}
 use Rattle.kp_homes.proofs.Standing.{rest_left, run_left, rest_made, rest_later, live_first, live_second, append_first, append_second, kept_first, kept_second}
+use Rattle.kp_homes.proofs.Earlier.{run_before}
 use Rattle.kp_homes.proofs.Ready.{on_ok_four, ready_ok, ready_true, ready_false, is_ready_true, is_ready_false}
 use Rattle.kp_homes.proofs.home.Home.append_live.Goals as goal
 
@@ -107,3 +108,21 @@ pub returns-else-self-clause-ready : goal.returns-else-self-clause-ready
 returns-else-self-clause-ready g c =
     on_ok_weaker c.append_batch-else-self.result (λ here. ready_false _ _ _ _ c.if-self.false here)
     (ready_ok c.append_batch-else-self.result c.args.self.now.journal _ c.args.records.now _ _ (is_ready_false _ _ _ _ c.if-self.false c.requires.ready) c.append_batch-else-self.ensures.held c.append_batch-else-self.ensures.done c.append_batch-else-self.ensures.journal)
+
+pub returns-then-self-clause-earlier : goal.returns-then-self-clause-earlier
+returns-then-self-clause-earlier g c b v st room n d le left =
+    let j = live_second c.args.self.now.journal.head.node b v (st.live ∙ ap Some c.if-self.true) st.value in
+    let run = c.append_batch.ensures.crash b.j1 v.journal st.rest.at_j1.holds j st.gate st.rest.at_j1.rests room in
+    record { on_j0 = left.on_j0; on_j1 = run_before _ _ n _ d.j1 _ _ run le left.on_j1; on_i0 = left.on_i0; on_i1 = left.on_i1 }
+
+pub returns-else-self-clause-earlier : goal.returns-else-self-clause-earlier
+returns-else-self-clause-earlier g c b v st room n d le left =
+    let j = live_first c.args.self.now.journal.head.node b v (st.live ∙ ap Some c.if-self.false) st.value in
+    let run = c.append_batch-else-self.ensures.crash b.j0 v.journal st.rest.at_j0.holds j st.gate st.rest.at_j0.rests room in
+    record { on_j0 = run_before _ _ n _ d.j0 _ _ run le left.on_j0; on_j1 = left.on_j1; on_i0 = left.on_i0; on_i1 = left.on_i1 }
+
+pub returns-then-self-clause-head : goal.returns-then-self-clause-head
+returns-then-self-clause-head g c = on_ok_weaker c.append_batch.result (λ made. ap (λ (i : Journaled). i.head) made) c.append_batch.ensures.journal
+
+pub returns-else-self-clause-head : goal.returns-else-self-clause-head
+returns-else-self-clause-head g c = on_ok_weaker c.append_batch-else-self.result (λ made. ap (λ (i : Journaled). i.head) made) c.append_batch-else-self.ensures.journal

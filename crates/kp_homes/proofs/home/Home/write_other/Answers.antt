@@ -5,6 +5,7 @@ use Rattle.kp_journal.specs.Heads.{generation}
 use Rattle.kp_homes.specs.Slots.{closed_head, filled, IsOldOrNew}
 use Rattle.kp_homes.specs.Stands.{Bytes4}
 use Rattle.kp_homes.proofs.Standing.{rest_left, rest_later, two_left, two_told_after, live_first, live_second}
+use Rattle.kp_homes.proofs.Earlier.{two_before}
 use Rattle.kp_homes.proofs.Ready.{ready_true, ready_false}
 use Rattle.kp_homes.proofs.Making.{made_slot, head_generation, next_generation, first_loses, second_loses, new_first, new_second, compact_first, compact_second, ready_made}
 use Rattle.kp_homes.proofs.home.Home.write_other.Goals as goal
@@ -118,3 +119,17 @@ returns-else-self-clause-ready g c =
     (λ was. ready_true _ _ _ _ (ap not c.if-self.false)
     (ready_made c.args.self.now.journal.head c.args.head c.args.records.now c.args.image.now c.bytes-body.result.now _ _ c.requires.next c.requires.fits c.bytes-body.ensures.spelled c.bytes-body.ensures.run c.requires.no_base c.bytes-body.ensures.small was))
     c.new_slot-else-self.ensures.held
+
+pub returns-then-self-clause-earlier : goal.returns-then-self-clause-earlier
+returns-then-self-clause-earlier g c b v st room n d le left =
+    let live = st.live ∙ ap Some c.if-self.true in
+    let run = c.new_slot.ensures.crash (generation b.j1) b.j0 b.i0 st.rest.at_j0.holds st.rest.at_i0.holds st.rest.at_j0.rests st.rest.at_i0.rests room (first_loses b.j0 b.j1 live) in
+    let both = two_before _ _ n _ d.j0 d.i0 b.j0 b.i0 _ _ _ _ _ _ st.rest.at_j0 st.rest.at_i0 run le left.on_j0 left.on_i0 in
+    record { on_j0 = both.0; on_i0 = both.1; on_j1 = left.on_j1; on_i1 = left.on_i1 }
+
+pub returns-else-self-clause-earlier : goal.returns-else-self-clause-earlier
+returns-else-self-clause-earlier g c b v st room n d le left =
+    let live = st.live ∙ ap Some c.if-self.false in
+    let run = c.new_slot-else-self.ensures.crash (generation b.j0 + 1) b.j1 b.i1 st.rest.at_j1.holds st.rest.at_i1.holds st.rest.at_j1.rests st.rest.at_i1.rests room (second_loses b.j0 b.j1 live) in
+    let both = two_before _ _ n _ d.j1 d.i1 b.j1 b.i1 _ _ _ _ _ _ st.rest.at_j1 st.rest.at_i1 run le left.on_j1 left.on_i1 in
+    record { on_j1 = both.0; on_i1 = both.1; on_j0 = left.on_j0; on_i0 = left.on_i0 }

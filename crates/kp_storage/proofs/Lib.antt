@@ -3,3 +3,4 @@ pub mod Parts
 pub mod LayerKeys
 pub mod Keeping
 pub mod Shown
+pub mod Adding

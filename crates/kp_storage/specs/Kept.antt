@@ -1,5 +1,5 @@
 -- What a storage keeps: its layers are the replay of its entries.
-use Rattle.std.specs.Prelude.{◌≡◌, ℕ, ◌+◌, ◌≤◌, ◌^◌, List, [], ◌∷◌, length, take, slice_get, Some, None, All}
+use Rattle.std.specs.Prelude.{◌≡◌, ℕ, ◌+◌, ◌≤◌, ◌^◌, List, [], ◌∷◌, ◌++◌, length, take, slice_get, Some, None, All}
 use Rattle.std.specs.declared.cmp.Ordering.{Ordering}
 use Rattle.kp_layers.specs.Layering.{Layering}
 use Rattle.kp_model.specs.LogEntry.{LogEntry}
@@ -55,3 +55,7 @@ pub record Keeps (o : Overlays) (es : List LogEntry) (answers : List Committed) 
 -- the committed state under the entries
 abbrev pub store : Overlays → List LogEntry → Store
 store o es = record { state = committed_state o; unapplied = es }
+
+-- the store with these entries behind its own
+abbrev pub with_all : Store → List LogEntry → Store
+with_all x es = record x { unapplied = x.unapplied ++ es }

@@ -2,6 +2,7 @@
 //! with a layer of changes for each of them, and what each of them is answered.
 #![tactic(auto)]
 
+mod image;
 mod storage;
 
 pub use storage::Storage;

@@ -25,11 +25,11 @@ use std::marker::Model;
 /// a layer over the committed state, so that the uncommitted state, which is the replay of the entries
 /// on the committed one, is looked up and not replayed.
 ///
-/// No call but `new`, `preprocess` and `read` takes memory. Where `preprocess` finds none, it answers
-/// `NoMemory`, and the storage is as it was.
+/// No call but `new`, `preprocess`, `adopt`, `image` and `read` takes memory. Where `preprocess` or `adopt` finds none, it
+/// answers `NoMemory`, and the storage is as it was.
 #[derive(Drop)]
 pub struct Storage {
-    alloc: Global,
+    pub(crate) alloc: Global,
     cells: Cells,
     // the entries that aren't applied, each with its layer in `cells`
     entries: VecDeque<Entry>,

@@ -1,4 +1,4 @@
-use Rattle.std.proofs.Common.{◌≡◌, [], ap, ◌∙◌}
+use Rattle.std.proofs.Common.{[], ap, ◌∙◌}
 use Rattle.kp_model.specs.State.{State}
 use Rattle.kp_model.specs.Store.{Store}
 use Rattle.kp_storage.proofs.Keeping.{sound_empty}

@@ -3,4 +3,6 @@
 #![tactic(auto)]
 
 #[cfg(test)]
+mod homes;
+#[cfg(test)]
 mod journal;

@@ -10,3 +10,4 @@ pub mod Settling
 pub mod Looking
 pub mod Earlier
 pub mod Beginning
+pub mod Carrying

@@ -11,7 +11,9 @@ mod tests;
 #[cfg(test)]
 mod whole;
 
-pub use board::{Always, Board, Happening, OneLetter, Pieces};
+pub use board::{
+    Always, Board, Handed, Happening, Happenings, OneLetter, Pieces, Visitor, board_of, was_handed,
+};
 pub use echo::{Echo, Holds};
 pub use letter::Letter;
 pub use pair::serve_two;

@@ -9,6 +9,8 @@ mod ends;
 #[cfg(test)]
 mod ids;
 #[cfg(test)]
+mod images;
+#[cfg(test)]
 mod nodes;
 #[cfg(test)]
 mod plain;

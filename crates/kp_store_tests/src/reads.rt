@@ -142,7 +142,8 @@ fn is_answered(
     Ok(told)
 }
 
-fn are_answered(alloc: Global, store: &Storage) -> Result<bool, NoMemory> {
+/// Whether each question is answered as it must be.
+pub fn are_answered(alloc: Global, store: &Storage) -> Result<bool, NoMemory> {
     for row in &ROWS {
         if !is_answered(alloc, store, row)? {
             return Ok(false);
@@ -151,7 +152,8 @@ fn are_answered(alloc: Global, store: &Storage) -> Result<bool, NoMemory> {
     Ok(true)
 }
 
-fn fill(alloc: Global, store: &mut Storage) -> Result<(), NoMemory> {
+/// Opens a session and creates the nodes of the questions.
+pub fn fill(alloc: Global, store: &mut Storage) -> Result<(), NoMemory> {
     open(store)?;
     create(alloc, store, 1, "/a", 31)?;
     create(alloc, store, 2, "/s", 2)?;

@@ -1,0 +1,22 @@
+-- The step at each kind of event is what its function makes.
+use Rattle.std.proofs.Common.{◌≡◌, ℕ, List, Option, refl}
+use Rattle.std.specs.FinMap as map
+use Rattle.kp_event.specs.declared.event.NodeEventKind.TheVariants as kind
+use Rattle.kp_step.specs.Choices.{Choices}
+use Rattle.kp_step.specs.Node.{Node}
+use Rattle.kp_step.specs.Asking.{Words, asked, reacted, installed}
+use Rattle.kp_step.specs.Step.{accept_turn, hangup_turn, drain_turn, turned, step}
+use Rattle.kp_node.specs.Steps.{images, aside}
+
+module _ (words : Words) (ch : Choices) (x : Node) (now : ℕ) where
+  pub at_accept : (draw : List ℕ) → step words images ch x (record { now = now; kind = kind.Accept draw }) ≡ aside ch x (kind.Accept draw) (accept_turn x draw)
+  unfolding step asked reacted installed turned
+  at_accept draw = refl
+
+  pub at_hangup : (k : ℕ) → step words images ch x (record { now = now; kind = kind.Hangup k }) ≡ aside ch x (kind.Hangup k) (hangup_turn x k)
+  unfolding step asked reacted installed turned
+  at_hangup k = refl
+
+  pub at_drain : (k : ℕ) → step words images ch x (record { now = now; kind = kind.Drain k }) ≡ aside ch x (kind.Drain k) (drain_turn x k (map.get x.seats k))
+  unfolding step asked reacted installed turned
+  at_drain k = refl

@@ -1,0 +1,4 @@
+pub mod Maps
+pub mod Came
+pub mod Told
+pub mod Events

@@ -1,0 +1,4 @@
+pub mod Parts
+pub mod Holding
+pub mod Steps
+pub mod Coming

@@ -2,3 +2,13 @@ pub mod Maps
 pub mod Came
 pub mod Told
 pub mod Events
+pub mod Owned
+pub mod Turning
+pub mod Refused
+pub mod Resting
+pub mod Putting
+pub mod Found
+pub mod Served
+pub mod Touched
+pub mod Heard
+pub mod Deciding

@@ -2,3 +2,11 @@ pub mod Parts
 pub mod Holding
 pub mod Steps
 pub mod Coming
+pub mod Deciding
+pub mod Refusing
+pub mod Resting
+pub mod Joining
+pub mod Telling
+pub mod Serving
+pub mod Touching
+pub mod Hearing

@@ -1,0 +1,40 @@
+-- What was read of a live connection is served in two parts: its requests join, and then what can be answered is.
+use Rattle.std.specs.Prelude.{◌≡◌, ℕ, true, false, List, [], ◌∷◌, Option, if◌then◌else◌}
+use Rattle.kp_model.specs.State.{State}
+use Rattle.kp_wire.specs.declared.request.Request.{Request}
+use Rattle.kp_watch.specs.declared.watch.Watch.{Watch}
+use Rattle.kp_watch.specs.Watching.{dropped}
+use Rattle.kp_conn.specs.declared.fed.Fed.{Fed}
+use Rattle.kp_conn.specs.declared.fed.FedEnd.{FedEnd}
+use Rattle.kp_conn.specs.Connection.{Connection, closed, is_lost}
+use Rattle.kp_step.specs.Choices.{Luck}
+use Rattle.kp_step.specs.Settling.{settled}
+use Rattle.kp_step.specs.Handing as step
+use Rattle.kp_step.specs.Handing.{served, ended_by}
+use Rattle.kp_node.specs.Deciding.{kept_watches}
+use Rattle.kp_node.specs.Joining.{IsJoined}
+
+-- by some luck this is what was read of the connection, served
+abbrev pub IsServed : step.Ground → ℕ → List Watch → Connection → step.Desk → Fed → List Watch → Connection → step.Desk → Type 0
+IsServed g k ws c d f ws' c' d' = (luck : Luck) × let w = served g luck k ws c d f in ((c' ≡ w.connection) × (d' ≡ w.desk) × (ws' ≡ kept_watches k c'.phase w.watches))
+
+-- a connection that was given up keeps nothing that waits
+abbrev pub IsEmptied : Connection → Type 0
+IsEmptied c = is_lost c.phase ≡ true → c.queue ≡ []
+
+-- by some luck a connection whose requests joined is settled, and what is no frame ends it; one that was given up stays
+abbrev pub IsFinished : State → ℕ → FedEnd → List Watch → Connection → List Watch → Connection → Type 0
+IsFinished s k end ws c ws' c' = (n : Option ℕ) × let r = settled s k n ws c c.queue in ((c' ≡ ended_by end r.connection) × (ws' ≡ (if is_lost c.phase then ws else kept_watches k c'.phase r.watches)))
+
+-- both parts are the whole
+abbrev pub PartsServe : Type 0
+PartsServe = (g : step.Ground) (k : ℕ) (ws mid ws' : List Watch) (c here c' : Connection) (d d' : step.Desk) (f : Fed)
+    → IsJoined g c d f.requests here d' → IsEmptied here → mid ≡ (if is_lost here.phase then dropped ws k else ws)
+    → IsFinished g.state k f.end mid here ws' c'
+    → IsServed g k ws c d f ws' c' d'
+
+-- where requests joined, and what they hand in finds no memory, the connection may be given up, and nothing was handed in
+abbrev pub GivenUpServes : Type 0
+GivenUpServes = (g : step.Ground) (k : ℕ) (ws : List Watch) (c here : Connection) (d mid : step.Desk) (f : Fed) (q : Request) (qs : List Request)
+    → f.requests ≡ q ∷ qs → IsJoined g c d f.requests here mid
+    → IsServed g k ws c d f (dropped ws k) (closed true here) d

@@ -6,6 +6,7 @@ keeper keeps a tree of small nodes, as ClickHouse Keeper does.
 
     keeper store < LINES    runs the lines of the store language on an empty store
     keeper store --help     tells those lines
+    keeper load START COUNT runs COUNT lines that are drawn from START on an empty store, and counts what comes of them
     keeper --version        tells the version, and the logic that proved it
 
 Standard input is read whole before the first line is taken; at a terminal Ctrl-D ends it.

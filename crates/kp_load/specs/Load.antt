@@ -1,8 +1,10 @@
 -- The lines of a load (this project's own).
-use Rattle.std.specs.Prelude.{ℕ, ◌+◌, ◌-◌, ◌*◌, ◌/◌, ◌%◌, ◌^◌, ◌==◌, max, nat_lt, Bool, true, false, List, [], ◌∷◌, ◌++◌, replicate, Option, Some, None, if◌then◌else◌, refl}
+use Rattle.std.specs.Prelude.{ℕ, ◌+◌, ◌-◌, ◌*◌, ◌/◌, ◌%◌, ◌^◌, ◌==◌, ◌&&◌, max, nat_lt, Bool, true, false, IsTrue, ⊤, List, [], ◌∷◌, ◌++◌, replicate, Option, Some, None, if◌then◌else◌, refl}
 use Rattle.std.specs.Coded.{Coded, code_by, coded×, coded_ℕ, coded_bool}
 use Rattle.std.specs.Fmt.{decimal}
 use Rattle.std.specs.Int.{to_be_bytes, w64}
+use Rattle.kp_model.specs.Grammar.{is_number, is_timeout}
+use Rattle.kp_text.specs.Spelling.{is_passwd}
 use Rattle.kp_text.specs.declared.command.Operation.{Operation}
 use Rattle.kp_text.specs.declared.command.Operation.TheVariants as operation
 use Rattle.kp_text.specs.declared.command.Command.TheVariants as command
@@ -59,6 +61,18 @@ line_in x applied last =
     else (if nat_lt (kind_in x) 12 then child_line_in x
     else (if nat_lt (kind_in x) 15 then line.Commit
     else line.Truncate (last_kept x applied last)))))
+
+-- the lines of a load: one that opens a session, writes of a session, commits and truncations, with numbers in their ranges
+abbrev pub is_load_line : StoreLine → Bool
+is_load_line (line.Open timeout passwd) = is_timeout timeout && is_passwd passwd
+is_load_line (line.Write session c) = is_number session
+is_load_line line.Commit = true
+is_load_line (line.Truncate k) = true
+is_load_line other = false
+
+abbrev pub IsLoadLine : Option StoreLine → Type 0
+IsLoadLine None = ⊤
+IsLoadLine (Some l) = IsTrue (is_load_line l)
 
 -- ---- all of them
 

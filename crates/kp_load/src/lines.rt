@@ -1,5 +1,5 @@
-ghost use Rattle.std.specs.Prelude.{◌≡◌, ◌≤◌, IfOk, OnErr, Some};
-ghost use Rattle.kp_load.specs.Load.{begun, written, create_in, child_line_in, set_in, delete_in, line_in, last_kept, after};
+ghost use Rattle.std.specs.Prelude.{◌≡◌, ◌≤◌, IfOk, IsTrue, OnErr, Some};
+ghost use Rattle.kp_load.specs.Load.{begun, written, create_in, child_line_in, set_in, delete_in, line_in, last_kept, after, is_load_line, IsLoadLine};
 
 use crate::draw::{bytes_in, child_in, kind_in, next_number, path_in, place_in};
 use kp_model::NoMemory;
@@ -30,7 +30,8 @@ impl Model for LoadLines {
 
 // A command of session 1.
 fn write(operation: Operation) -> StoreLine
-    ensures { result ≡ written operation }
+    ensures line { result ≡ written operation }
+    ensures grammar { IsTrue (is_load_line result) }
 {
     StoreLine::Write {
         session: 1,
@@ -40,7 +41,8 @@ fn write(operation: Operation) -> StoreLine
 
 #[tactic(auto, unfolding(crate::specs::Load::create_in))]
 fn create(alloc: Global, x: u64) -> Result<StoreLine, NoMemory>
-    ensures { IfOk result (λ l. l ≡ create_in x) }
+    ensures line { IfOk result (λ l. l ≡ create_in x) }
+    ensures grammar { IfOk result (λ l. IsTrue (is_load_line l)) }
 {
     let path = path_in(alloc, x)?;
     Ok(write(Operation::Create {
@@ -53,7 +55,8 @@ fn create(alloc: Global, x: u64) -> Result<StoreLine, NoMemory>
 
 #[tactic(auto, unfolding(crate::specs::Load::child_line_in))]
 fn create_child(alloc: Global, x: u64) -> Result<StoreLine, NoMemory>
-    ensures { IfOk result (λ l. l ≡ child_line_in x) }
+    ensures line { IfOk result (λ l. l ≡ child_line_in x) }
+    ensures grammar { IfOk result (λ l. IsTrue (is_load_line l)) }
 {
     let path = child_in(alloc, x)?;
     Ok(write(Operation::Create {
@@ -66,7 +69,8 @@ fn create_child(alloc: Global, x: u64) -> Result<StoreLine, NoMemory>
 
 #[tactic(auto, unfolding(crate::specs::Load::set_in))]
 fn set(alloc: Global, x: u64) -> Result<StoreLine, NoMemory>
-    ensures { IfOk result (λ l. l ≡ set_in x) }
+    ensures line { IfOk result (λ l. l ≡ set_in x) }
+    ensures grammar { IfOk result (λ l. IsTrue (is_load_line l)) }
 {
     let path = path_in(alloc, x)?;
     Ok(write(Operation::Set {
@@ -78,7 +82,8 @@ fn set(alloc: Global, x: u64) -> Result<StoreLine, NoMemory>
 
 #[tactic(auto, unfolding(crate::specs::Load::delete_in))]
 fn delete(alloc: Global, x: u64) -> Result<StoreLine, NoMemory>
-    ensures { IfOk result (λ l. l ≡ delete_in x) }
+    ensures line { IfOk result (λ l. l ≡ delete_in x) }
+    ensures grammar { IfOk result (λ l. IsTrue (is_load_line l)) }
 {
     Ok(write(Operation::Delete {
         path: path_in(alloc, x)?,
@@ -96,7 +101,8 @@ fn last_kept(x: u64, applied: u64, last: u64) -> u64
 // The line that is drawn.
 #[tactic(auto, unfolding(crate::specs::Load::line_in))]
 fn line_in(alloc: Global, x: u64, applied: u64, last: u64) -> Result<StoreLine, NoMemory>
-    ensures { IfOk result (λ l. l ≡ line_in x applied last) }
+    ensures line { IfOk result (λ l. l ≡ line_in x applied last) }
+    ensures grammar { IfOk result (λ l. IsTrue (is_load_line l)) }
 {
     let kind = kind_in(x);
     if kind < 6 {
@@ -135,6 +141,7 @@ impl LoadLines {
     pub fn next(&mut self, applied: u64, last: u64) -> Result<Option<StoreLine>, NoMemory>
         ensures line { IfOk result (λ l. l ≡ (after self.old applied last).line) }
         ensures rest { IfOk result (λ _. self.new ≡ (after self.old applied last).rest) }
+        ensures grammar { IfOk result (λ l. IsLoadLine l) }
         ensures err { OnErr result (self.new ≡ self.old) }
     {
         if self.opens {

@@ -4,3 +4,4 @@ mod Paces
 mod Looks
 mod Runs
 mod Mapped
+mod Loads

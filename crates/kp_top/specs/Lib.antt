@@ -5,3 +5,4 @@ pub mod Transcript
 pub mod Output
 pub mod Run
 pub mod Paced
+pub mod Loading

@@ -1,5 +1,5 @@
 -- What a line and a command may come to.
-use Rattle.std.specs.Prelude.{ℕ, Bool, false, ◌≡◌, List, [], ◌∷◌, ◌++◌, Option, Some, None, ⊤}
+use Rattle.std.specs.Prelude.{ℕ, Bool, false, if◌then◌else◌, ◌≡◌, List, [], ◌∷◌, ◌++◌, Option, Some, None, ⊤}
 use Rattle.std.specs.Str.{bytes_eq}
 use Rattle.std.specs.Io.KnownBytes.{Keeps}
 use Rattle.kp_top.specs.declared.status.Status.{Status}
@@ -8,6 +8,7 @@ use Rattle.kp_top.specs.declared.taken.Taken.{Taken}
 use Rattle.kp_top.specs.declared.taken.Taken.TheVariants as taken
 use Rattle.kp_text.specs.declared.line.StoreLine.{StoreLine}
 use Rattle.kp_text.specs.Lines.{line_of}
+use Rattle.kp_text.specs.Words.{number_of}
 use Rattle.kp_top.specs.Transcript.{Work, turn}
 use Rattle.kp_top.specs.Output.{WroteAll, WrotePart}
 use lib.Chars.{codes}
@@ -28,6 +29,19 @@ abbrev pub is_store_command : List (List ℕ) → Bool
 is_store_command (w ∷ []) = bytes_eq w (codes "store")
 is_store_command _ = false
 
+-- the numbers of a load, where both words are such numbers
+abbrev pub both : Option ℕ → Option ℕ → Option (ℕ × ℕ)
+both (Some start) (Some count) = Some (start, count)
+both _ _ = None
+
+abbrev pub load_numbers : List ℕ → List ℕ → Option (ℕ × ℕ)
+load_numbers start count = both (number_of 18446744073709551615 start) (number_of 1000000 count)
+
+-- the words `load START COUNT`
+abbrev pub load_command : List (List ℕ) → Option (ℕ × ℕ)
+load_command (w ∷ start ∷ count ∷ []) = if bytes_eq w (codes "load") then load_numbers start count else None
+load_command _ = None
+
 -- the statuses that lines may come to
 abbrev pub IsOfLines : Status → Type 0
 IsOfLines status.Done = ⊤
@@ -35,6 +49,13 @@ IsOfLines (status.BadLine n) = ⊤
 IsOfLines status.WriteFault = ⊤
 IsOfLines status.NoMemory = ⊤
 IsOfLines _ = ⊥
+
+-- the statuses that a load may come to
+abbrev pub IsOfLoad : Status → Type 0
+IsOfLoad status.Done = ⊤
+IsOfLoad status.WriteFault = ⊤
+IsOfLoad status.NoMemory = ⊤
+IsOfLoad _ = ⊥
 
 -- the statuses that come only once the whole input was read
 abbrev pub IsBehindInput : Status → Type 0

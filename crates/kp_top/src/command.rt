@@ -3,13 +3,22 @@ ghost use Rattle.std.specs.Io.KnownBytes.{IsAtEnd};
 ghost use Rattle.kp_io.specs.Faults.{one_more, Rose};
 ghost use Rattle.kp_top.specs.Output.{WroteAll, WrotePart, TookMore, TookWithin};
 ghost use Rattle.kp_top.specs.Transcript.{transcript, bad_line};
-ghost use Rattle.kp_top.specs.Run.{IsOfStore, IsBeforeLines, IsBehindInput, IsDoneOrNoMemory, IsBadLineOrNoMemory, IsTooLongOrNoMemory, is_store_command};
+ghost use Rattle.kp_top.specs.Loading.{load_text};
+ghost use Rattle.kp_top.specs.Run.{IsOfStore, IsBeforeLines, IsBehindInput, IsDoneOrNoMemory, IsBadLineOrNoMemory, IsTooLongOrNoMemory, is_store_command, load_command, load_numbers};
 
+use crate::load::run_load;
 use crate::status::Status;
 use crate::store::run_store;
 use crate::stream::{ReadEnd, read_all};
 use kp_io::{Disk, Seven, Sink, Source};
+use kp_text::number_of;
 use std::alloc::Global;
+
+/// The greatest number that a load starts from: 2^64 - 1.
+const GREATEST_START: u64 = 18_446_744_073_709_551_615;
+
+/// The most lines that a load draws.
+const MOST_LINES: u64 = 1_000_000;
 
 /// Whether the words are those of the store command.
 fn is_store(words: &[String]) -> bool
@@ -21,8 +30,68 @@ fn is_store(words: &[String]) -> bool
     }
 }
 
-/// Does what the words of a command line say: `store` runs the store language, from `input` to `output`.
-/// It waits for nobody and always returns. The homes are as they were.
+/// The number that a load starts from and how many lines it draws, where both words are such numbers.
+fn numbers_of(start: &str, count: &str) -> Option<(u64, u64)>
+    ensures numbers { result ≡ load_numbers start.now count.now }
+    ensures few { IfSome result (λ l. l.1 ≤ 1000000) }
+{
+    match (
+        number_of(GREATEST_START, start),
+        number_of(MOST_LINES, count),
+    ) {
+        (Some(start), Some(count)) => Some((start, count)),
+        _ => None,
+    }
+}
+
+/// The start and the count of a load, where the words are those of the load command.
+fn load_of(words: &[String]) -> Option<(u64, u64)>
+    ensures words { result ≡ load_command (map string_bytes words.now) }
+    ensures few { IfSome result (λ l. l.1 ≤ 1000000) }
+{
+    match words {
+        [word, start, count] if word.as_str() == "load" => {
+            numbers_of(start.as_str(), count.as_str())
+        }
+        _ => None,
+    }
+}
+
+/// Reads the lines of the store language and runs them.
+fn read_store<S: Source, W: Sink>(alloc: Global, input: &mut S, output: &mut W) -> Status
+    ensures done { result ≡ Status.Done → IfSome (S.left input.old) (λ text.
+        (bad_line text ≡ None) × WroteAll (W.held output.old) (W.held output.new) (transcript text)) }
+    ensures bad { (n : ℕ) → result ≡ Status.BadLine n → IfSome (S.left input.old) (λ text.
+        (bad_line text ≡ Some n) × WroteAll (W.held output.old) (W.held output.new) (transcript text)) }
+    ensures whole { IsBehindInput result → IsAtEnd (S.left input.new) × IfSome (S.left input.old) (λ text. length text ≤ 67108864) }
+    ensures too_long { result ≡ Status.TooLong → TookMore (S.left input.old) (S.left input.new) }
+    ensures within { (result ≡ Status.TooLong → ⊥) → TookWithin (S.left input.old) (S.left input.new) }
+    ensures read_fault { result ≡ Status.ReadFault → S.faults input.new ≡ one_more (S.faults input.old) }
+    ensures no_read_fault { (result ≡ Status.ReadFault → ⊥) → S.faults input.new ≡ S.faults input.old }
+    ensures write_fault { result ≡ Status.WriteFault → W.faults output.new ≡ one_more (W.faults output.old) }
+    ensures no_write_fault { (result ≡ Status.WriteFault → ⊥) → W.faults output.new ≡ W.faults output.old }
+    ensures part { IfSome (S.left input.old) (λ text. WrotePart (W.held output.old) (W.held output.new) (transcript text)) }
+    ensures nothing { IsBeforeLines result → output.new ≡ output.old }
+    ensures others { IsOfStore result }
+    ensures ran { (result ≡ Status.Usage) ↔ ⊥ }
+    ensures complete { (text : List ℕ) → S.left input.old ≡ Some text
+        → length text ≤ 67108864 → bad_line text ≡ None → ¬ (Rose (S.faults input.old) (S.faults input.new)) → ¬ (Rose (W.faults output.old) (W.faults output.new)) → IsDoneOrNoMemory result }
+    ensures complete_bad { (text : List ℕ) (n : ℕ) → S.left input.old ≡ Some text
+        → length text ≤ 67108864 → bad_line text ≡ Some n → ¬ (Rose (S.faults input.old) (S.faults input.new)) → ¬ (Rose (W.faults output.old) (W.faults output.new)) → IsBadLineOrNoMemory n result }
+    ensures complete_long { (text : List ℕ) → S.left input.old ≡ Some text
+        → 67108864 < length text → ¬ (Rose (S.faults input.old) (S.faults input.new)) → IsTooLongOrNoMemory result }
+{
+    match read_all(alloc, input) {
+        Ok(text) => run_store(alloc, text.as_slice(), output),
+        Err(ReadEnd::Fault) => Status::ReadFault,
+        Err(ReadEnd::TooLong) => Status::TooLong,
+        Err(ReadEnd::NoMemory) => Status::NoMemory,
+    }
+}
+
+/// Does what the words of a command line say: `store` runs the store language, from `input` to `output`; `load START COUNT`
+/// runs the lines of a load and writes the line of what was counted. It waits for nobody and always returns. The homes are
+/// as they were.
 pub fn run_command<S: Source, W: Sink, H: Disk>(
     alloc: Global,
     words: &[String],
@@ -32,20 +101,22 @@ pub fn run_command<S: Source, W: Sink, H: Disk>(
 ) -> Status
     ensures homes { homes.new ≡ homes.old }
 
-    // Usage exactly where the words are no command; then nothing is read and nothing is written.
-    ensures usage { (result ≡ Status.Usage) ↔ (is_store_command (map string_bytes words.now) ≡ false) }
-    ensures unread { result ≡ Status.Usage → input.new ≡ input.old }
+    // Usage exactly where the words are no command; then nothing is written. Nothing is read but by the store command.
+    ensures usage { (result ≡ Status.Usage) ↔ ((is_store_command (map string_bytes words.now) ≡ false) × (load_command (map string_bytes words.now) ≡ None)) }
+    ensures unread { is_store_command (map string_bytes words.now) ≡ false → input.new ≡ input.old }
 
-    // Done: the input was read to its end, has no bad line, and its whole transcript was written.
-    ensures done { result ≡ Status.Done → IfSome (S.left input.old) (λ text.
+    // Done: the input was read to its end, has no bad line, and its whole transcript was written; or the line of the load was.
+    ensures done { is_store_command (map string_bytes words.now) ≡ true → result ≡ Status.Done → IfSome (S.left input.old) (λ text.
         (bad_line text ≡ None) × WroteAll (W.held output.old) (W.held output.new) (transcript text)) }
+    ensures loaded { (start count : ℕ) → load_command (map string_bytes words.now) ≡ Some (start, count) → result ≡ Status.Done
+        → WroteAll (W.held output.old) (W.held output.new) (load_text start count) }
 
     // BadLine: this is the first line outside the grammar, and the transcript of those before it was written.
     ensures bad { (n : ℕ) → result ≡ Status.BadLine n → IfSome (S.left input.old) (λ text.
         (bad_line text ≡ Some n) × WroteAll (W.held output.old) (W.held output.new) (transcript text)) }
 
-    // Done, BadLine and WriteFault come once the whole input was read.
-    ensures whole { IsBehindInput result → IsAtEnd (S.left input.new) × IfSome (S.left input.old) (λ text. length text ≤ 67108864) }
+    // Done, BadLine and WriteFault of the store command come once the whole input was read.
+    ensures whole { is_store_command (map string_bytes words.now) ≡ true → IsBehindInput result → IsAtEnd (S.left input.new) × IfSome (S.left input.old) (λ text. length text ≤ 67108864) }
 
     // TooLong exactly where more than 67,108,864 bytes were read.
     ensures too_long { result ≡ Status.TooLong → TookMore (S.left input.old) (S.left input.new) }
@@ -57,8 +128,9 @@ pub fn run_command<S: Source, W: Sink, H: Disk>(
     ensures write_fault { result ≡ Status.WriteFault → W.faults output.new ≡ one_more (W.faults output.old) }
     ensures no_write_fault { (result ≡ Status.WriteFault → ⊥) → W.faults output.new ≡ W.faults output.old }
 
-    // Whatever comes, no more than a beginning of the transcript was written; before the lines the output isn't touched.
-    ensures part { IfSome (S.left input.old) (λ text. WrotePart (W.held output.old) (W.held output.new) (transcript text)) }
+    // Whatever comes, no more than a beginning of what belongs there was written; before the lines the output isn't touched.
+    ensures part { is_store_command (map string_bytes words.now) ≡ true → IfSome (S.left input.old) (λ text. WrotePart (W.held output.old) (W.held output.new) (transcript text)) }
+    ensures part_of_load { (start count : ℕ) → load_command (map string_bytes words.now) ≡ Some (start, count) → WrotePart (W.held output.old) (W.held output.new) (load_text start count) }
     ensures nothing { IsBeforeLines result → output.new ≡ output.old }
     ensures others { IsOfStore result }
 
@@ -69,14 +141,14 @@ pub fn run_command<S: Source, W: Sink, H: Disk>(
         → length text ≤ 67108864 → bad_line text ≡ Some n → ¬ (Rose (S.faults input.old) (S.faults input.new)) → ¬ (Rose (W.faults output.old) (W.faults output.new)) → IsBadLineOrNoMemory n result }
     ensures complete_long { (text : List ℕ) → is_store_command (map string_bytes words.now) ≡ true → S.left input.old ≡ Some text
         → 67108864 < length text → ¬ (Rose (S.faults input.old) (S.faults input.new)) → IsTooLongOrNoMemory result }
+    ensures complete_load { (start count : ℕ) → load_command (map string_bytes words.now) ≡ Some (start, count)
+        → ¬ (Rose (W.faults output.old) (W.faults output.new)) → IsDoneOrNoMemory result }
 {
-    if !is_store(words) {
-        return Status::Usage;
+    if is_store(words) {
+        return read_store(alloc, input, output);
     }
-    match read_all(alloc, input) {
-        Ok(text) => run_store(alloc, text.as_slice(), output),
-        Err(ReadEnd::Fault) => Status::ReadFault,
-        Err(ReadEnd::TooLong) => Status::TooLong,
-        Err(ReadEnd::NoMemory) => Status::NoMemory,
+    match load_of(words) {
+        Some((start, count)) => run_load(alloc, start, count as u32, output),
+        None => Status::Usage,
     }
 }

@@ -4,12 +4,14 @@
 mod command;
 mod input_lines;
 mod line_commands;
+mod load;
 mod looking;
 mod print;
 mod status;
 mod store;
 mod stream;
 mod taken;
+mod tally;
 mod work;
 
 pub use command::run_command;

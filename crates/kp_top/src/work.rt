@@ -1,17 +1,23 @@
-ghost use Rattle.std.specs.Prelude.{◌≡◌, ◌<◌, ◌≤◌, ◌&&◌, IfOk, IsTrue};
+ghost use Rattle.std.specs.Prelude.{◌≡◌, ◌<◌, ◌≤◌, ◌+◌, ◌^◌, ◌&&◌, IfOk, IsTrue, OnOk};
+ghost use Rattle.std.specs.Option.{option_copied};
 ghost use Rattle.kp_model.specs.Limits.{last_number};
 ghost use Rattle.std.specs.FinMap as map;
 ghost use Rattle.kp_model.specs.Grammar.{is_body, has_numbers, is_number};
-ghost use Rattle.kp_model.specs.Store.{last as last_of, latest};
+ghost use Rattle.kp_model.specs.Store.{last as last_of, latest, with_entry, kept};
 ghost use Rattle.kp_model.specs.declared.entry.Body.TheVariants as body;
 ghost use Rattle.kp_text.specs.Spelling.{is_line};
 ghost use Rattle.kp_top.specs.Transcript.{blank, turn as turn_of, entered, committed, cut as cut_of, write_of, epoch_of, next_seq_of, origin_of as origin_at};
 ghost use Rattle.kp_top.specs.LineCommands.{cmd_of as asks};
 ghost use Rattle.kp_top.specs.Paced.{IsPaced};
+ghost use Rattle.kp_top.specs.Loading.{IsWithin, counted, with_entry_kept};
+ghost use Rattle.kp_load.specs.Load.{after, is_load_line, IsLoadLine};
+ghost use Rattle.kp_text.specs.declared.line.StoreLine.TheVariants as line;
 
 use crate::line_commands::cmd_of;
 use crate::looking::{acl, children, peek, see, who};
 use crate::print::{cut_text, done_text, pre_text, text_of, time_text};
+use crate::tally::Tally;
+use kp_load::LoadLines;
 use kp_model::{Body, Cmd, Entry, NoMemory, Origin};
 use kp_storage::Storage;
 use kp_text::{Command, StoreLine};
@@ -75,6 +81,19 @@ fn write_body(store: &Storage, session: u64, cmd: Cmd) -> Body
     }
 }
 
+/// Adds an entry.
+fn add(store: &mut Storage, time: u64, body: Body) -> Result<(), NoMemory>
+    requires room { last_of store.old < last_number }
+    requires numbers { IsTrue (has_numbers 0 time body) }
+    ensures entry { OnOk result (store.new ≡ with_entry store.old (record { term = 0; time = time; body = body })) }
+    ensures state { store.new.state ≡ store.old.state }
+{
+    let entry = Entry::new(0, time, body)?;
+    let added = store.preprocess(&entry);
+    drop(entry);
+    added
+}
+
 /// Adds an entry and answers its text.
 #[tactic(auto, unfolding(crate::specs::Transcript::entered))]
 fn enter(alloc: Global, store: &mut Storage, time: u64, body: Body) -> Result<Vec<u8>, NoMemory>
@@ -83,10 +102,26 @@ fn enter(alloc: Global, store: &mut Storage, time: u64, body: Body) -> Result<Ve
     ensures turn { IfOk result (λ v. record { text = v.items; work = record { store = store.new; time = time } } ≡ entered (record { store = store.old; time = time }) body) }
     ensures state { store.new.state ≡ store.old.state }
 {
-    let entry = Entry::new(0, time, body)?;
-    store.preprocess(&entry)?;
+    add(store, time, body)?;
     let last = store.last();
     pre_text(alloc, last, store.kept(last))
+}
+
+/// Adds an entry and counts it by its kept reply.
+#[tactic(auto, unfolding(crate::specs::Transcript::entered))]
+fn count_entry(store: &mut Storage, time: u64, body: Body, tally: Tally) -> Result<Tally, NoMemory>
+    requires room { last_of store.old < last_number }
+    requires numbers { IsTrue (has_numbers 0 time body) }
+    requires made { tally.made < 2 ^ 63 }
+    requires good { tally.good < 2 ^ 63 }
+    requires bad { tally.bad < 2 ^ 63 }
+    ensures work { IfOk result (λ t. record { store = store.new; time = time } ≡ (entered (record { store = store.old; time = time }) body).work) }
+    ensures tally { IfOk result (λ t. t ≡ with_entry_kept (kept store.new (last_of store.new)) tally) }
+    ensures state { store.new.state ≡ store.old.state }
+{
+    add(store, time, body)?;
+    let last = store.last();
+    Ok(tally.with_entry(store.kept(last)))
 }
 
 /// Adds a command of a session, with its epoch and its next number, and answers its text.
@@ -159,6 +194,42 @@ fn truncate(alloc: Global, store: &mut Storage, time: u64, last: u64) -> Result<
     text_of(alloc, "cut refused")
 }
 
+/// Applies the first unapplied entry, where there is one, and counts it.
+#[tactic(auto, unfolding(crate::specs::Transcript::committed, kp_model::specs::Store::commit_answer, kp_model::specs::Store::commit_leaves, crate::specs::Loading::counted), using(crate::proofs::Paces::paced_commit))]
+fn count_commit(store: &mut Storage, time: u64, tally: Tally) -> Tally
+    requires paced { IsPaced store.old.state }
+    requires small { tally.done < 2 ^ 63 }
+    ensures work { record { store = store.new; time = time } ≡ (committed (record { store = store.old; time = time })).work }
+    ensures tally { result ≡ counted line.Commit store.old store.new tally }
+    ensures paced { IsPaced store.new.state }
+{
+    let done = store.commit();
+    let took = done.is_some();
+    drop(done);
+    Tally {
+        done: tally.done + took as u64,
+        ..tally
+    }
+}
+
+/// Truncates where the index is from the applied one to the last, and counts the entries that go.
+#[tactic(auto, unfolding(crate::specs::Transcript::cut, crate::specs::Loading::counted))]
+fn count_cut(store: &mut Storage, time: u64, last: u64, tally: Tally) -> Tally
+    requires small { tally.cut + last_of store.old < 2 ^ 63 }
+    ensures work { record { store = store.new; time = time } ≡ (cut_of (record { store = store.old; time = time }) last).work }
+    ensures tally { result ≡ counted (line.Truncate last) store.old store.new tally }
+    ensures state { store.new.state ≡ store.old.state }
+{
+    let before = store.last();
+    if store.applied() <= last && last <= before {
+        store.truncate(last);
+    }
+    Tally {
+        cut: tally.cut + (before - store.last()),
+        ..tally
+    }
+}
+
 /// The origin of a session that the n-th line opens or takes over.
 fn origin_of(n: u64) -> Origin
     ensures { result ≡ origin_at n }
@@ -180,6 +251,57 @@ impl Work {
             store: Storage::new(alloc)?,
             time: 0,
         })
+    }
+
+    /// Does the n-th line of a load, and counts what comes of it. After an `Err` no further line is taken.
+    #[tactic(auto, unfolding(crate::specs::Transcript::turn, crate::specs::Loading::counted))]
+    pub fn count(&mut self, n: u64, line: StoreLine, tally: Tally) -> Result<Tally, NoMemory>
+        requires room { last_of self.old.store < last_number }
+        requires number { n ≤ last_number }
+        requires line { IsTrue (is_load_line line) }
+        requires small { IsWithin last_number (last_of self.old.store) tally }
+        ensures work { IfOk result (λ _. self.new ≡ (turn_of self.old n line).work) }
+        ensures tally { IfOk result (λ t. t ≡ counted line self.old.store self.new.store tally) }
+    {
+        let (alloc, time) = (self.alloc, self.time);
+        let store = &mut self.store;
+        match line {
+            StoreLine::Open { timeout, passwd } => {
+                let body = Body::OpenSession {
+                    timeout,
+                    passwd,
+                    origin: origin_of(n),
+                };
+                count_entry(store, time, body, tally)
+            }
+            StoreLine::Write { session, command } => {
+                let cmd = cmd_of(alloc, command)?;
+                let body = write_body(store, session, cmd);
+                count_entry(store, time, body, tally)
+            }
+            StoreLine::Commit => Ok(count_commit(store, time, tally)),
+            StoreLine::Truncate { last } => Ok(count_cut(store, time, last, tally)),
+            other => {
+                drop(other);
+                Ok(tally)
+            }
+        }
+    }
+
+    /// How many nodes the committed tree has, with the root.
+    pub fn node_count(&self) -> u64
+        ensures { result ≡ map.len self.now.store.state.nodes }
+    {
+        self.store.node_count()
+    }
+
+    /// The next line of a load for this store.
+    pub fn next_of(&self, lines: &mut LoadLines) -> Result<Option<StoreLine>, NoMemory>
+        ensures line { IfOk result (λ l. l ≡ (after lines.old self.now.store.state.applied (last_of self.now.store)).line) }
+        ensures rest { IfOk result (λ _. lines.new ≡ (after lines.old self.now.store.state.applied (last_of self.now.store)).rest) }
+        ensures grammar { IfOk result (λ l. IsLoadLine l) }
+    {
+        lines.next(self.store.applied(), self.store.last())
     }
 
     /// Does the n-th line and answers its text, without a line feed. After an `Err` no further line is taken.

@@ -7,6 +7,7 @@ use Rattle.kp_step.specs.Node.{Node}
 use Rattle.kp_step.specs.Asking.{Words, asked, reacted, installed}
 use Rattle.kp_step.specs.Step.{accept_turn, hangup_turn, drain_turn, turned, step}
 use Rattle.kp_node.specs.Steps.{images, aside}
+use Rattle.kp_node.specs.Timing.{beat_step, snapshot_step}
 
 module _ (words : Words) (ch : Choices) (x : Node) (now : ℕ) where
   pub at_accept : (draw : List ℕ) → step words images ch x (record { now = now; kind = kind.Accept draw }) ≡ aside ch x (kind.Accept draw) (accept_turn x draw)
@@ -20,3 +21,11 @@ module _ (words : Words) (ch : Choices) (x : Node) (now : ℕ) where
   pub at_drain : (k : ℕ) → step words images ch x (record { now = now; kind = kind.Drain k }) ≡ aside ch x (kind.Drain k) (drain_turn x k (map.get x.seats k))
   unfolding step asked reacted installed turned
   at_drain k = refl
+
+  pub at_beat : step words images ch x (record { now = now; kind = kind.Beat }) ≡ beat_step ch x
+  unfolding step asked reacted installed turned
+  at_beat = refl
+
+  pub at_snapshot : step words images ch x (record { now = now; kind = kind.Snapshot }) ≡ snapshot_step ch x
+  unfolding step asked reacted installed turned
+  at_snapshot = refl

@@ -1,5 +1,7 @@
 pub mod Maps
 pub mod Came
+pub mod Reacting
+pub mod Sent
 pub mod Told
 pub mod Events
 pub mod Owned
@@ -12,3 +14,4 @@ pub mod Served
 pub mod Touched
 pub mod Heard
 pub mod Deciding
+pub mod Starting

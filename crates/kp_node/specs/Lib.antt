@@ -10,3 +10,5 @@ pub mod Telling
 pub mod Serving
 pub mod Touching
 pub mod Hearing
+pub mod Timing
+pub mod Starting

@@ -1,9 +1,9 @@
 //! A node: the Raft step, the storage, connections, watches and expiry put together, one step for each event.
 //!
-//! What a node does is defined in `kp_step`; here stands the code of it. So far it has the node, connections that come, go
-//! and take what is ready for them, when sessions were heard, and what is done with one connection: how its connect request
-//! is looked at and answered, how its requests are answered or refused, how it hears of events and learns of an entry, when
-//! a question sets its watch, and what is said.
+//! What a node does is defined in `kp_step`; here stands the code of it. So far it has the node and its start, a leader's
+//! messages, images of the log, connections that come, go and take what is ready for them, when sessions were heard, and
+//! what is done with one connection: how its connect request is looked at and answered, how its requests are answered or
+//! refused, how it hears of events and learns of an entry, when a question sets its watch, and what is said.
 #![tactic(auto)]
 
 mod answering;
@@ -20,7 +20,9 @@ mod refusing;
 mod said;
 mod serving;
 mod settling;
+mod start;
 mod telling;
+mod timing;
 mod watched;
 
 pub use connect::{greeting, held_timeout, is_refused, opening, refusal};
@@ -29,4 +31,5 @@ pub use laws::{found_is_kept, hears_on, one_is_all, one_is_changed, parts_serve}
 pub use node::Node;
 pub use outcome::Outcome;
 pub use said::{fed_word, piece};
+pub use start::Stored;
 pub use watched::{kind_of, lets_watch};

@@ -5,14 +5,14 @@ ghost use Rattle.kp_entry.specs.Log.{last_index};
 ghost use Rattle.kp_step.specs.Node.{last};
 ghost use Rattle.kp_step.specs.Step.{standing_of};
 ghost use Rattle.kp_node.specs.Parts.{node_of};
-ghost use Rattle.kp_node.specs.Steps.{quietly};
+ghost use Rattle.kp_node.specs.Steps.{quietly, given_behind};
 
 use crate::outcome::Outcome;
 use kp_entry::Records;
 use kp_event::{Said, Standing};
 use kp_expiry::Expiry;
 use kp_model::{Items, Role};
-use kp_raft::Raft;
+use kp_raft::{Raft, RaftOut};
 use kp_seats::Seats;
 use kp_snapshot::Image;
 use kp_step::Seat;
@@ -131,6 +131,29 @@ impl Node {
             records: Records::new(self.alloc),
             image: None,
             mail: Items::new(self.alloc),
+            cut: None,
+            lost: 0,
+            standing: self.standing(),
+            ready: Items::new(self.alloc),
+        }
+    }
+
+    // What is given behind what Raft gave, where no connection changed.
+    pub(crate) fn behind(&self, said: Said, out: RaftOut<Image>, image: Option<Image>) -> Outcome
+        ensures { result ≡ given_behind said out image (standing_of (node_of self.now)) }
+    {
+        let RaftOut {
+            image: installed,
+            records,
+            mail,
+            ..
+        } = out;
+        drop(installed);
+        Outcome {
+            said,
+            records,
+            image,
+            mail,
             cut: None,
             lost: 0,
             standing: self.standing(),

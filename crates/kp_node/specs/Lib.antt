@@ -12,3 +12,4 @@ pub mod Touching
 pub mod Hearing
 pub mod Timing
 pub mod Starting
+pub mod Facts

@@ -107,9 +107,10 @@ in_read nodes (a ∷ b ∷ c ∷ []) l fits e =
     let k = number_read b q.0 q.1 in
     let r = bound (data_of c) _ l q.2 in
     let w = data_is_spelled c r.0 r.1 in
-    subst (AreWordsOf nodes (codes "in" ∷ a ∷ b ∷ c ∷ [])) (got (In p.0 q.0 r.0) l r.2)
-    (ap (λ x. codes "in" ∷ x ∷ b ∷ c ∷ []) n.0 ∙ ap (λ x. codes "in" ∷ decimal p.0 ∷ x ∷ c ∷ []) k.0 ∙ ap (λ x. codes "in" ∷ decimal p.0 ∷ decimal q.0 ∷ x ∷ []) w.0,
-    both (is_node nodes p.0) (is_number q.0 && are_bytes r.0) n.1 (both (is_number q.0) (are_bytes r.0) k.1 w.1))
+    subst (AreWordsOf nodes (codes "in" ∷ a ∷ b ∷ c ∷ [])) (got (In p.0 q.0 r.0) l r.2) (
+      ap (λ x. codes "in" ∷ x ∷ b ∷ c ∷ []) n.0 ∙ ap (λ x. codes "in" ∷ decimal p.0 ∷ x ∷ c ∷ []) k.0 ∙ ap (λ x. codes "in" ∷ decimal p.0 ∷ decimal q.0 ∷ x ∷ []) w.0,
+      both (is_node nodes p.0) (is_number q.0 && are_bytes r.0) n.1 (both (is_number q.0) (are_bytes r.0) k.1 w.1),
+    )
 in_read nodes (a ∷ b ∷ c ∷ d ∷ ws) l fits e = absurd (cc)
 
 hangup_read : (nodes : ℕ) (ws : List (List ℕ)) (l : EventLine) → nodes < 2 ^ 64 → hangup_line nodes ws ≡ Some l → AreWordsOf nodes (codes "hangup" ∷ ws) l

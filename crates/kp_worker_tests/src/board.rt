@@ -1,5 +1,5 @@
 // The connections of a node in memory, with a list of what happens outside.
-ghost use Rattle.std.specs.Prelude.{◌≡◌, ◌≤◌, ℕ, [], false, length};
+ghost use Rattle.std.specs.Prelude.{◌≡◌, ◌≤◌, ℕ, [], None, false, length};
 ghost use Rattle.kp_lines.specs.Tables.{state_at};
 ghost use Rattle.kp_worker.specs.Outside.{HeardWithin};
 

@@ -1,0 +1,3 @@
+pub mod EpochKeeping
+pub mod EpochEntries
+pub mod EpochLists

@@ -33,6 +33,7 @@ pub record IsTaken (s : State) (b : Body) (o : Outcome) (id : ℕ) : Type 0 wher
   pub epoch : behind.epoch ≡ before.epoch + 1
   pub free : is_held s.sessions behind.holder ≡ false
   pub origin : origin_of b ≡ Some behind.holder
+  pub reply : o.reply ≡ reply.Epoch behind.epoch
 
 -- a session is opened
 pub record IsBegun (s : State) (b : Body) (o : Outcome) (id : ℕ) : Type 0 where
@@ -105,6 +106,7 @@ joined_at s session passwd origin x there free id true e = let same : id ≡ ses
   epoch = refl;
   free = free;
   origin = refl;
+  reply = refl;
 }))
 joined_at s session passwd origin x there free id false e = inl (record {
   attached = e;

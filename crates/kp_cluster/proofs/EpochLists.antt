@@ -4,6 +4,7 @@ use Rattle.std.specs.Option.{option_map}
 use Rattle.std.specs.Ordering.{nat_cmp}
 use Rattle.std.specs.FinMap as map
 use Rattle.kp_model.specs.declared.session.Session.{Session}
+use Rattle.kp_model.specs.declared.reply.Reply.TheVariants as reply
 use Rattle.kp_model.specs.LogEntry.{LogEntry}
 use Rattle.kp_model.specs.State.{State, Sessions, empty}
 use Rattle.kp_model.specs.Step.{apply}
@@ -55,9 +56,9 @@ module _ (s : State) (e : LogEntry) (id : ℕ) (numbered : IsNumbered s) where
   lives_below : (x : Session) → map.get s.sessions id ≡ Some x → id ≡ s.next → ⊥
   lives_below x there same = let lt = numbered id x there in omega (arith, lt, same)
 
-  rises_by : G → attaches id e.body (apply s e).reply ≡ true → (n : ℕ) × ((epoch_of s id ≡ Some n) × (epoch_of (apply s e).state id ≡ Some (n + 1)))
+  rises_by : G → attaches id e.body (apply s e).reply ≡ true → (n : ℕ) × ((epoch_of s id ≡ Some n) × ((epoch_of (apply s e).state id ≡ Some (n + 1)) × ((apply s e).reply ≡ reply.Epoch (n + 1))))
   rises_by (inl h) a = clash _ a h.attached
-  rises_by (inr (inl h)) a = (h.before.epoch, (ap epoch_in h.was, ap epoch_in h.is ∙ ap Some h.epoch))
+  rises_by (inr (inl h)) a = (h.before.epoch, (ap epoch_in h.was, (ap epoch_in h.is ∙ ap Some h.epoch, h.reply ∙ ap reply.Epoch h.epoch)))
   rises_by (inr (inr h)) a = clash _ a h.attached
 
   stays_by : G → (n : ℕ) → attaches id e.body (apply s e).reply ≡ false → epoch_of s id ≡ Some n → (epoch_of (apply s e).state id ≡ Some n) ⊎ (epoch_of (apply s e).state id ≡ None)
@@ -105,7 +106,7 @@ gone_for_good s [] id numbered lt none = none
 gone_for_good s (e ∷ es) id numbered lt none = let le = next_on s e in
     gone_for_good (apply s e).state es id (numbered_on s e numbered) (omega (arith, lt, le)) (gone_by s e id lt ((epochs_go_on s e id numbered).begins none))
 
-none_later : {A : Type 0} (n : ℕ) (o : Option ℕ) → o ≡ Some n → o ≡ None → A
+pub none_later : {A : Type 0} (n : ℕ) (o : Option ℕ) → o ≡ Some n → o ≡ None → A
 none_later n o e f = absurd (no_value n (sym e ∙ f))
 
 -- behind one entry, where it holds of all others from there on
@@ -119,7 +120,7 @@ risen_by : (s : State) (e : LogEntry) (es : List LogEntry) (id m n : ℕ) → Is
     → (b : Bool) → attaches id e.body (apply s e).reply ≡ b → ((k : ℕ) → epoch_of (apply s e).state id ≡ Some k → k ≤ n) → m ≤ n
 risen_by s e es id m n numbered was is false a on = stayed_by s e es id m n numbered was is ((epochs_go_on s e id numbered).stays m a was) on
 risen_by s e es id m n numbered was is true a on = let r = (epochs_go_on s e id numbered).rises a in let same = same_value m r.0 (sym was ∙ r.1.0) in
-    let le = on (r.0 + 1) r.1.1 in omega (arith, same, le)
+    let le = on (r.0 + 1) r.1.1.0 in omega (arith, same, le)
 
 pub epochs_never_fall : EpochsNeverFall
 unfolding after

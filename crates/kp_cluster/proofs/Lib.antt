@@ -1,3 +1,4 @@
 pub mod EpochKeeping
 pub mod EpochEntries
 pub mod EpochLists
+pub mod EpochMarks

@@ -1,5 +1,5 @@
 -- The epochs of a session along a list of entries.
-use Rattle.std.specs.Prelude.{◌≡◌, ◌≤◌, ◌<◌, ◌⊎◌, ℕ, ◌+◌, ◌==◌, Bool, true, false, List, Option, Some, None}
+use Rattle.std.specs.Prelude.{◌≡◌, ◌≤◌, ◌<◌, ◌⊎◌, ℕ, ◌+◌, ◌-◌, ◌==◌, Bool, true, false, List, [], ◌∷◌, take, slice_get, Option, Some, None}
 use Rattle.std.specs.Option.{option_map}
 use Rattle.std.specs.FinMap as map
 use Rattle.kp_model.specs.declared.entry.Body.{Body}
@@ -7,6 +7,7 @@ use Rattle.kp_model.specs.declared.entry.Body.TheVariants as body
 use Rattle.kp_model.specs.declared.reply.Reply.{Reply}
 use Rattle.kp_model.specs.declared.reply.Reply.TheVariants as reply
 use Rattle.kp_model.specs.declared.session.Session.{Session}
+use Rattle.kp_model.specs.declared.session.Origin.{Origin}
 use Rattle.kp_model.specs.LogEntry.{LogEntry}
 use Rattle.kp_model.specs.State.{State, empty}
 use Rattle.kp_model.specs.Step.{apply}
@@ -27,8 +28,8 @@ attaches id b r = false
 
 -- what an entry makes of the epoch of a session
 pub record EpochGoesOn (s : State) (e : LogEntry) (id : ℕ) : Type 0 where
-  -- an attach of it that isn't refused raises it by one
-  pub rises : attaches id e.body (apply s e).reply ≡ true → (n : ℕ) × ((epoch_of s id ≡ Some n) × (epoch_of (apply s e).state id ≡ Some (n + 1)))
+  -- an attach of it that isn't refused raises it by one, and is answered the new one
+  pub rises : attaches id e.body (apply s e).reply ≡ true → (n : ℕ) × ((epoch_of s id ≡ Some n) × ((epoch_of (apply s e).state id ≡ Some (n + 1)) × ((apply s e).reply ≡ reply.Epoch (n + 1))))
   -- of any other entry a session that lives stays in its epoch, or ends
   pub stays : (n : ℕ) → attaches id e.body (apply s e).reply ≡ false → epoch_of s id ≡ Some n → (epoch_of (apply s e).state id ≡ Some n) ⊎ (epoch_of (apply s e).state id ≡ None)
   -- one that doesn't live isn't there either, or it has the next number that is given out, and epoch 1
@@ -49,3 +50,37 @@ GoneForGood = (s : State) (es : List LogEntry) (id : ℕ) → IsNumbered s → i
 pub record StatesAreNumbered : Type 0 where
   pub none : IsNumbered empty
   pub all : (s : State) (es : List LogEntry) → IsNumbered s → IsNumbered (after s es) × (s.next ≤ (after s es).next)
+
+-- ---- the last epoch of a session
+
+abbrev pub newer : Option ℕ → Option ℕ → Option ℕ
+newer old None = old
+newer old (Some n) = Some n
+
+-- along the entries from a state on, where it had this one before
+unfoldable pub last_epoch_from : Option ℕ → State → List LogEntry → ℕ → Option ℕ
+last_epoch_from old s [] id = newer old (epoch_of s id)
+last_epoch_from old s (e ∷ es) id = last_epoch_from (newer old (epoch_of s id)) (apply s e).state es id
+
+-- the epoch that a session has behind the entries, or had last where it is gone; None where it never lived from this state on
+abbrev pub last_epoch : State → List LogEntry → ℕ → Option ℕ
+last_epoch s es id = last_epoch_from None s es id
+
+-- ---- one list of entries from the empty state on
+
+-- the entry of index i + 1 is an attach of the session that isn't refused, and gives it this epoch
+pub record IsAttach (es : List LogEntry) (i id epoch : ℕ) : Type 0 where
+  pub entry : LogEntry
+  pub there : slice_get es i ≡ Some entry
+  pub passwd : List ℕ
+  pub origin : Origin
+  pub body : entry.body ≡ body.Attach id passwd origin
+  pub reply : (apply (after empty (take i es)) entry).reply ≡ reply.Epoch epoch
+
+-- what shows index z is of the last epoch that the session had behind z entries, or behind one less
+abbrev pub IsShown : List LogEntry → ℕ → ℕ → ℕ → Type 0
+IsShown es z id epoch = (last_epoch empty (take z es) id ≡ Some epoch) ⊎ (last_epoch empty (take (z - 1) es) id ≡ Some epoch)
+
+-- what is of an older epoch shows at most the index of the attach, and what is of its epoch or a newer one at least that
+abbrev pub NoneCrosses : Type 0
+NoneCrosses = (es : List LogEntry) (z i id epoch new : ℕ) → IsShown es z id epoch → IsAttach es i id new → (epoch < new → z ≤ i + 1) × (new ≤ epoch → i + 1 ≤ z)

@@ -3,4 +3,4 @@
 
 mod epochs;
 
-pub use epochs::epochs_rise_by_attaching;
+pub use epochs::{epochs_rise_by_attaching, no_answer_crosses_an_attach};

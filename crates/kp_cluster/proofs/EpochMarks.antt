@@ -1,6 +1,7 @@
 -- The last epoch of a session never falls along a list of entries.
 use Rattle.std.proofs.Common.{◌≡◌, ℕ, zero, suc, ◌+◌, ◌-◌, ◌≤◌, ◌<◌, ◌==◌, Bool, true, false, ◌⊎◌, inl, inr, List, [], ◌∷◌, ◌++◌, take, slice_get, Option, Some, None, refl, ap, sym, subst, ◌∙◌, arith}
 use Rattle.std.proofs.lemmas.Bool.{eq-eqb}
+use Rattle.std.proofs.lemmas.List.{take-append-le}
 use Rattle.std.proofs.lemmas.Bool.Decides.{nat_tests}
 use Rattle.std.specs.Prelude.{nat_lt}
 use Rattle.std.specs.FinMap as map
@@ -14,7 +15,7 @@ use Rattle.kp_model.specs.State.{State, empty}
 use Rattle.kp_model.specs.Step.{apply}
 use Rattle.kp_model.specs.Store.{after}
 use Rattle.kp_model.proofs.Maps.{same_value, no_value}
-use Rattle.kp_cluster.specs.Epochs.{IsNumbered, epoch_of, attaches, EpochGoesOn, newer, last_epoch_from, last_epoch, IsAttach, IsShown, NoneCrosses}
+use Rattle.kp_cluster.specs.Epochs.{IsNumbered, epoch_of, attaches, EpochGoesOn, newer, last_epoch_from, last_epoch, IsAttach, IsShown, NoneCrosses, BeginningsShow}
 use Rattle.kp_cluster.proofs.EpochLists.{found, none_later, epochs_go_on, epochs_never_fall, numbered_on, next_on, numbered_along, none_numbered}
 
 abbrev pub Below : Option ℕ → Option ℕ → Type 0
@@ -127,7 +128,7 @@ last_anyhow old s es id n e = by_old None old s es id n e (λ m f. none_later m 
 begin_known : (id : ℕ) → IsKnown None empty id
 begin_known id = record { numbered = none_numbered; fresh = λ le. refl; fits = λ n there. tt }
 
-after_push : (s : State) (es : List LogEntry) (e : LogEntry) → after s (es ++ e ∷ []) ≡ (apply (after s es) e).state
+pub after_push : (s : State) (es : List LogEntry) (e : LogEntry) → after s (es ++ e ∷ []) ≡ (apply (after s es) e).state
 unfolding after
 after_push s [] e = refl
 after_push s (d ∷ es) e = after_push (apply s d).state es e
@@ -181,3 +182,7 @@ module _ (es : List LogEntry) (id : ℕ) where
 pub none_crosses : NoneCrosses
 none_crosses es z i id epoch new w a = let m = attach_marks es i id new a in
     ((λ lt. let r = older_by es id z i epoch new w m lt (nat_lt (suc i) z) refl in omega (arith, r)), (λ up. let r = newer_by es id z i epoch new w m up (nat_lt z (suc i)) refl in omega (arith, r)))
+
+pub beginnings_show : BeginningsShow
+beginnings_show es more z id epoch le (inl h) = inl (ap (λ xs. last_epoch empty xs id) (take-append-le z es more le) ∙ h)
+beginnings_show es more z id epoch le (inr h) = inr (ap (λ xs. last_epoch empty xs id) (take-append-le (z - 1) es more (omega (arith, le))) ∙ h)

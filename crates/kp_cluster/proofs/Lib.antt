@@ -2,3 +2,8 @@ pub mod EpochKeeping
 pub mod EpochEntries
 pub mod EpochLists
 pub mod EpochMarks
+pub mod EpochPhases
+pub mod EpochTables
+pub mod EpochServing
+pub mod EpochSteps
+pub mod EpochTurns

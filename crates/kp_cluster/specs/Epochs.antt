@@ -1,5 +1,5 @@
 -- The epochs of a session along a list of entries.
-use Rattle.std.specs.Prelude.{◌≡◌, ◌≤◌, ◌<◌, ◌⊎◌, ℕ, ◌+◌, ◌-◌, ◌==◌, Bool, true, false, List, [], ◌∷◌, take, slice_get, Option, Some, None}
+use Rattle.std.specs.Prelude.{◌≡◌, ◌≤◌, ◌<◌, ◌⊎◌, ℕ, ◌+◌, ◌-◌, ◌==◌, Bool, true, false, List, [], ◌∷◌, ◌++◌, length, take, slice_get, Option, Some, None}
 use Rattle.std.specs.Option.{option_map}
 use Rattle.std.specs.FinMap as map
 use Rattle.kp_model.specs.declared.entry.Body.{Body}
@@ -84,3 +84,7 @@ IsShown es z id epoch = (last_epoch empty (take z es) id ≡ Some epoch) ⊎ (la
 -- what is of an older epoch shows at most the index of the attach, and what is of its epoch or a newer one at least that
 abbrev pub NoneCrosses : Type 0
 NoneCrosses = (es : List LogEntry) (z i id epoch new : ℕ) → IsShown es z id epoch → IsAttach es i id new → (epoch < new → z ≤ i + 1) × (new ≤ epoch → i + 1 ≤ z)
+
+-- what is shown on the beginning of a list is shown on the whole
+abbrev pub BeginningsShow : Type 0
+BeginningsShow = (es more : List LogEntry) (z id epoch : ℕ) → z ≤ length es → IsShown es z id epoch → IsShown (es ++ more) z id epoch

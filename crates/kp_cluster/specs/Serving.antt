@@ -1,0 +1,115 @@
+-- Which sessions the live connections of a node serve, and of which epochs its answers are.
+use Rattle.std.specs.Prelude.{◌≡◌, ◌<◌, ◌==◌, ℕ, Bool, true, false, List, [], ◌∷◌, length, Option, Some, None}
+use Rattle.std.specs.List.{AllByRecursion}
+use Rattle.std.specs.FinMap as map
+use Rattle.kp_model.specs.declared.session.Session.{Session}
+use Rattle.kp_model.specs.declared.session.Origin.{Origin}
+use Rattle.kp_model.specs.LogEntry.{LogEntry}
+use Rattle.kp_model.specs.State.{State, empty, same_origin}
+use Rattle.kp_model.specs.Step.{apply}
+use Rattle.kp_model.specs.Store.{after}
+use Rattle.kp_entry.specs.Held.{Held}
+use Rattle.kp_raft.specs.declared.mail.Mail.{Mail}
+use Rattle.kp_event.specs.declared.event.NodeEvent.{NodeEvent}
+use Rattle.kp_conn.specs.declared.phase.Phase.{Phase}
+use Rattle.kp_conn.specs.declared.phase.Phase.TheVariants as phase
+use Rattle.kp_step.specs.declared.seat.Seat.{Seat}
+use Rattle.kp_step.specs.Answers.{Cause, by_move}
+use Rattle.kp_step.specs.Choices.{Choices}
+use Rattle.kp_step.specs.Node.{Node, Images}
+use Rattle.kp_step.specs.Asking.{Words}
+use Rattle.kp_step.specs.Settling.{Told}
+use Rattle.kp_step.specs.Step.{Stepped, step}
+use Rattle.kp_step.specs.Runs.{Run, begun, at_start, done_by, base_behind, done_behind, with_step, run}
+use Rattle.kp_cluster.specs.Epochs.{IsNumbered, last_epoch, IsShown}
+
+-- ---- a live connection
+
+-- connection k of a run of a member
+abbrev pub conn_at : ℕ → ℕ → ℕ → Origin
+conn_at me boot k = record { node = me; boot = boot; conn = k }
+
+-- behind the entries from a base on, which lead to the state, a connection serves a session in an epoch
+pub record Serves (base : State) (done : List LogEntry) (s : State) (mine : Origin) (id epoch : ℕ) : Type 0 where
+  -- the session's number was given out
+  pub given : id < s.next
+  -- the epoch is the one that the session has, or had last where it is gone
+  pub last : last_epoch base done id ≡ Some epoch
+  -- a session that lives has exactly this epoch, and is held by this connection
+  pub current : (x : Session) → map.get s.sessions id ≡ Some x → (x.epoch ≡ epoch) × (same_origin x.holder mine ≡ true)
+
+abbrev pub PhaseServes : State → List LogEntry → State → Origin → Phase → Type 0
+PhaseServes base done s mine (phase.Live id epoch n) = Serves base done s mine id epoch
+PhaseServes base done s mine p = Unit {0}
+
+abbrev pub SeatServes : State → List LogEntry → State → Origin → Option Seat → Type 0
+SeatServes base done s mine None = Unit {0}
+SeatServes base done s mine (Some x) = PhaseServes base done s mine x.connection.phase
+
+-- each live connection of a node does
+abbrev pub AllServe : State → List LogEntry → Node → Type 0
+AllServe base done x = (k : ℕ) → SeatServes base done x.state (conn_at x.me x.boot k) (map.get x.seats k)
+
+-- ---- an answer
+
+-- the committed state on which a step answers, and the entries up to it
+abbrev pub state_behind : Option LogEntry → State → State
+state_behind None s = s
+state_behind (Some e) s = (apply s e).state
+
+-- -118 is answered for the epoch that the session had before the entry, and all else for that which it has or had last behind it
+abbrev pub entries_for : Cause → Option LogEntry → List LogEntry → List LogEntry
+entries_for by_move e done = done
+entries_for c e done = done_by e done
+
+-- an answer to a live connection shows the index of the state, and its epoch is the last that its session had
+abbrev pub IsOfEpoch : State → List LogEntry → State → Option LogEntry → Told → Type 0
+IsOfEpoch base done s e t = (t.session == 0) ≡ false → (t.zxid ≡ (state_behind e s).applied) × (last_epoch base (entries_for t.cause e done) t.session ≡ Some t.epoch)
+
+-- ---- one step
+
+-- what is known before a step: its sessions have numbers that were given out, its committed state is the replay of the entries, and its live connections serve their sessions
+pub record IsServing (base : State) (done : List LogEntry) (x : Node) : Type 0 where
+  pub numbered : IsNumbered x.state
+  pub replay : x.state ≡ after base done
+  pub serves : AllServe base done x
+
+abbrev pub IsNumberedImage : {I : Type 0} → Images I → Option I → Type 0
+IsNumberedImage im None = Unit {0}
+IsNumberedImage im (Some i) = IsNumbered (im.shows i)
+
+-- a node that was just started serves nobody
+abbrev pub ServingBegins : Type 0
+ServingBegins = (me members boot now : ℕ) (held : Held) (s : State) → IsNumbered s → IsServing s [] (begun me members boot now held s)
+
+-- and each step keeps it so, where an image that is taken has none but sessions with numbers that were given out
+abbrev pub ServingGoesOn : Type 0 → Type 0
+ServingGoesOn I = (words : Words) (im : Images I) (ch : Choices) (x : Node) (v : NodeEvent (Mail I)) (base : State) (done : List LogEntry) → IsServing base done x → IsNumberedImage im (step words im ch x v).installed
+    → IsServing (base_behind im (step words im ch x v).installed base) (done_behind (step words im ch x v).installed (step words im ch x v).applied done) (step words im ch x v).node
+
+-- what a step answers
+abbrev pub AnswersAreOfTheirEpoch : Type 0 → Type 0
+AnswersAreOfTheirEpoch I = (words : Words) (im : Images I) (ch : Choices) (x : Node) (v : NodeEvent (Mail I)) (base : State) (done : List LogEntry) → IsServing base done x
+    → (k : ℕ) → AllByRecursion (λ (t : Told). IsOfEpoch base done x.state (step words im ch x v).applied t) ((step words im ch x v).told k)
+
+-- an answer on one list of entries from the empty state on: it shows the index of the last, and is of the epoch there, or before it
+abbrev pub IsShownOn : List LogEntry → Told → Type 0
+IsShownOn es t = (t.session == 0) ≡ false → (t.zxid ≡ length es) × IsShown es t.zxid t.session t.epoch
+
+-- the same on the one list, where that begins with the entries that the node has applied
+abbrev pub AnswersAreShown : Type 0 → Type 0
+AnswersAreShown I = (words : Words) (im : Images I) (ch : Choices) (x : Node) (v : NodeEvent (Mail I)) (done : List LogEntry) → IsServing empty done x
+    → (k : ℕ) → AllByRecursion (λ (t : Told). IsShownOn (done_by (step words im ch x v).applied done) t) ((step words im ch x v).told k)
+
+-- ---- runs
+
+-- each image that is taken on the way has none but sessions with numbers that were given out
+unfoldable pub AreNumbered : {I : Type 0} → Words → Images I → Run → List (Choices × NodeEvent (Mail I)) → Type 0
+AreNumbered words im r [] = Unit {0}
+AreNumbered words im r (e ∷ es) = IsNumberedImage im (step words im e.0 r.node e.1).installed × AreNumbered words im (with_step im r (step words im e.0 r.node e.1)) es
+
+-- in every run from a state whose sessions have numbers that were given out
+abbrev pub ServingInRuns : Type 0 → Type 0
+ServingInRuns I = (words : Words) (im : Images I) (me members boot now : ℕ) (held : Held) (s : State) → IsNumbered s
+    → (es : List (Choices × NodeEvent (Mail I))) → AreNumbered words im (at_start (begun me members boot now held s)) es
+    → let r = run words im (at_start (begun me members boot now held s)) es in IsServing r.base r.done r.node

@@ -1,18 +1,18 @@
 -- Epochs along lists of entries.
-use Rattle.std.proofs.Common.{◌≡◌, ℕ, ◌+◌, ◌≤◌, ◌<◌, ◌==◌, Bool, true, false, ◌⊎◌, inl, inr, List, [], ◌∷◌, Option, Some, None, is_some, refl, ap, sym, subst, ◌∙◌, true≢false, arith}
+use Rattle.std.proofs.Common.{◌≡◌, ℕ, ◌+◌, ◌≤◌, ◌<◌, Bool, true, false, ◌⊎◌, inl, inr, List, [], ◌∷◌, Option, Some, None, refl, ap, sym, ◌∙◌, true≢false, arith}
 use Rattle.std.specs.Option.{option_map}
 use Rattle.std.specs.Ordering.{nat_cmp}
 use Rattle.std.specs.FinMap as map
 use Rattle.kp_model.specs.declared.session.Session.{Session}
 use Rattle.kp_model.specs.declared.reply.Reply.TheVariants as reply
 use Rattle.kp_model.specs.LogEntry.{LogEntry}
-use Rattle.kp_model.specs.State.{State, Sessions, empty}
+use Rattle.kp_model.specs.State.{State, empty}
 use Rattle.kp_model.specs.Step.{apply}
 use Rattle.kp_model.specs.Store.{after}
 use Rattle.kp_model.proofs.Maps.{same_value, no_value}
-use Rattle.kp_cluster.specs.Epochs.{IsNumbered, epoch_of, attaches, EpochGoesOn, EpochsGoOn, EpochsNeverFall, GoneForGood, StatesAreNumbered}
+use Rattle.kp_cluster.specs.Epochs.{IsNumbered, epoch_of, attaches, EpochsGoOn, EpochsNeverFall, GoneForGood, StatesAreNumbered}
 use Rattle.kp_cluster.proofs.EpochKeeping.{Remains}
-use Rattle.kp_cluster.proofs.EpochEntries.{IsTaken, IsBegun, IsLeft, Going, apply_goes}
+use Rattle.kp_cluster.proofs.EpochEntries.{Going, apply_goes}
 
 abbrev pub raised : State → State
 raised s = record s { applied = s.applied + 1 }

@@ -1,11 +1,10 @@
 -- The last epoch of a session never falls along a list of entries.
-use Rattle.std.proofs.Common.{◌≡◌, ℕ, zero, suc, ◌+◌, ◌-◌, ◌≤◌, ◌<◌, ◌==◌, Bool, true, false, ◌⊎◌, inl, inr, List, [], ◌∷◌, ◌++◌, take, slice_get, Option, Some, None, refl, ap, sym, subst, ◌∙◌, arith}
+use Rattle.std.proofs.Common.{◌≡◌, ℕ, zero, suc, ◌+◌, ◌-◌, ◌≤◌, ◌<◌, Bool, true, false, ◌⊎◌, inl, inr, List, [], ◌∷◌, ◌++◌, take, slice_get, Option, Some, None, refl, ap, sym, subst, ◌∙◌, arith}
 use Rattle.std.proofs.lemmas.Bool.{eq-eqb}
 use Rattle.std.proofs.lemmas.List.{take-append-le}
 use Rattle.std.proofs.lemmas.Bool.Decides.{nat_tests}
 use Rattle.std.specs.Prelude.{nat_lt}
 use Rattle.std.specs.FinMap as map
-use Rattle.kp_model.specs.declared.entry.Body.{Body}
 use Rattle.kp_model.specs.declared.entry.Body.TheVariants as body
 use Rattle.kp_model.specs.declared.reply.Reply.{Reply}
 use Rattle.kp_model.specs.declared.reply.Reply.TheVariants as reply
@@ -15,7 +14,7 @@ use Rattle.kp_model.specs.State.{State, empty}
 use Rattle.kp_model.specs.Step.{apply}
 use Rattle.kp_model.specs.Store.{after}
 use Rattle.kp_model.proofs.Maps.{same_value, no_value}
-use Rattle.kp_cluster.specs.Epochs.{IsNumbered, epoch_of, attaches, EpochGoesOn, newer, last_epoch_from, last_epoch, IsAttach, IsShown, NoneCrosses, BeginningsShow}
+use Rattle.kp_cluster.specs.Epochs.{IsNumbered, epoch_of, attaches, newer, last_epoch_from, last_epoch, IsAttach, IsShown, NoneCrosses, BeginningsShow}
 use Rattle.kp_cluster.proofs.EpochLists.{found, none_later, epochs_go_on, epochs_never_fall, numbered_on, next_on, numbered_along, none_numbered}
 
 abbrev pub Below : Option ℕ → Option ℕ → Type 0
@@ -108,6 +107,13 @@ pub last_push : (old : Option ℕ) (s : State) (es : List LogEntry) (e : LogEntr
 unfolding last_epoch_from after
 last_push old s [] e id = refl
 last_push old s (d ∷ es) e id = last_push (newer old (epoch_of s id)) (apply s d).state es e id
+
+-- a list behind another
+pub last_split : (old : Option ℕ) (s : State) (fs es : List LogEntry) (id : ℕ) → last_epoch_from old s (fs ++ es) id ≡ last_epoch_from (last_epoch_from old s fs id) (after s fs) es id
+unfolding last_epoch_from after
+last_split old s [] [] id = sym (twice old (epoch_of s id))
+last_split old s [] (e ∷ es) id = ap (λ o. last_epoch_from o (apply s e).state es id) (sym (twice old (epoch_of s id)))
+last_split old s (f ∷ fs) es id = last_split (newer old (epoch_of s id)) (apply s f).state fs es id
 
 -- what was known before is no matter where the session lived since
 pub last_anyhow : (old : Option ℕ) (s : State) (es : List LogEntry) (id n : ℕ) → last_epoch s es id ≡ Some n → last_epoch_from old s es id ≡ Some n

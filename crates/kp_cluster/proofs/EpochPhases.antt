@@ -1,16 +1,10 @@
 -- The parts of a step keep the phase of a connection, or end the connection.
-use Rattle.std.proofs.Common.{◌≡◌, ℕ, Bool, true, false, List, [], ◌∷◌, Option, Some, None, refl, sym, subst, ◌∙◌}
-use Rattle.std.specs.Prelude.{if◌then◌else◌}
-use Rattle.std.specs.List.{AllByRecursion}
-use Rattle.kp_model.specs.State.{State}
+use Rattle.std.proofs.Common.{◌≡◌, ℕ, true, false, List, [], ◌∷◌, Option, Some, None, refl, ◌∙◌}
 use Rattle.kp_model.specs.declared.command.Cmd.{Cmd}
 use Rattle.kp_ask.specs.Asks.{command}
 use Rattle.kp_wire.specs.declared.connect.ConnectRequest.{ConnectRequest}
 use Rattle.kp_wire.specs.declared.request.Request.{Request}
-use Rattle.kp_wire.specs.declared.reply.WireReply.{WireReply}
-use Rattle.kp_wire.specs.declared.reply.WireReply.TheVariants as sent
 use Rattle.kp_watch.specs.declared.watch.Watch.{Watch}
-use Rattle.kp_conn.specs.declared.fed.Fed.{Fed}
 use Rattle.kp_conn.specs.declared.fed.FedEnd.{FedEnd}
 use Rattle.kp_conn.specs.declared.fed.FedEnd.TheVariants as ends
 use Rattle.kp_conn.specs.declared.first.First.{First}
@@ -18,14 +12,11 @@ use Rattle.kp_conn.specs.declared.first.First.TheVariants as firsts
 use Rattle.kp_conn.specs.declared.phase.Phase.{Phase}
 use Rattle.kp_conn.specs.declared.phase.Phase.TheVariants as phase
 use Rattle.kp_conn.specs.declared.waiting.Mark.{Mark}
-use Rattle.kp_conn.specs.declared.waiting.Waiting.{Waiting}
-use Rattle.kp_conn.specs.Connection.{Connection, closed, joined, numbered as renumbered, put, is_over}
+use Rattle.kp_conn.specs.Connection.{Connection, closed, numbered as renumbered, put, is_over}
 use Rattle.kp_conn.specs.Fed.{fed, fed_as, fed_first, with_piece}
-use Rattle.kp_conn.specs.Packets.{reply_packet}
-use Rattle.kp_step.specs.Choices.{Luck, is_out, less}
-use Rattle.kp_step.specs.Answers.{Answer, Cause, code_of}
-use Rattle.kp_step.specs.Settling.{Settled, given_out, refused, settled_so, telling, told_by}
-use Rattle.kp_step.specs.Handing.{Ground, Desk, Joined, joined_so, joined_write, joined_as, joined_one, joined_all, taking, unnumbered, numbered, ended_by, Served, connects, first_served, is_refused, is_led}
+use Rattle.kp_step.specs.Choices.{is_out, less}
+use Rattle.kp_step.specs.Settling.{given_out}
+use Rattle.kp_step.specs.Handing.{Ground, Desk, Joined, joined_so, joined_write, joined_as, joined_one, joined_all, taking, numbered, ended_by, Served, first_served, is_refused, is_led}
 use Rattle.kp_step.proofs.Serves.{choose}
 
 -- the phase is that of a live connection with this session and epoch

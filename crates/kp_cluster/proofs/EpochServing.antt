@@ -1,5 +1,5 @@
 -- An entry leaves a live connection its session, and gives a new one to the connection that it makes live.
-use Rattle.std.proofs.Common.{◌≡◌, ℕ, ◌+◌, ◌≤◌, ◌<◌, ◌==◌, Bool, true, false, not, ◌&&◌, ◌||◌, cond, ◌⊎◌, inl, inr, List, [], ◌∷◌, ◌++◌, Option, Some, None, refl, ap, sym, subst, ◌∙◌, true≢false, eqb-true, arith}
+use Rattle.std.proofs.Common.{◌≡◌, ℕ, ◌+◌, ◌==◌, Bool, true, false, not, ◌&&◌, ◌||◌, cond, inl, inr, List, [], ◌∷◌, ◌++◌, Option, Some, None, refl, ap, sym, subst, ◌∙◌, true≢false, eqb-true, arith}
 use Rattle.std.proofs.lemmas.Bool.{eq-eqb}
 use Rattle.std.specs.Prelude.{if◌then◌else◌, nat_le}
 use Rattle.std.specs.Str.{bytes_eq}
@@ -22,14 +22,14 @@ use Rattle.kp_conn.specs.declared.phase.Phase.{Phase}
 use Rattle.kp_conn.specs.declared.phase.Phase.TheVariants as phase
 use Rattle.kp_conn.specs.Connection.{is_over}
 use Rattle.kp_step.specs.Answers.{Cause, by_state, by_entry, by_lack, by_term, by_move, by_end}
-use Rattle.kp_step.specs.Settling.{Told, told_by}
+use Rattle.kp_step.specs.Settling.{told_by}
 use Rattle.kp_step.specs.Committing.{session_of, conn_of, newcomer}
 use Rattle.kp_step.specs.Runs.{done_by}
 use Rattle.kp_step.proofs.Tables.{no}
 use Rattle.kp_cluster.specs.Epochs.{IsNumbered, epoch_of, attaches, newer, last_epoch}
-use Rattle.kp_cluster.specs.Serving.{conn_at, Serves, PhaseServes, state_behind, entries_for, IsOfEpoch}
+use Rattle.kp_cluster.specs.Serving.{conn_at, Serves, PhaseServes, state_behind, entries_for, state_for, IsOfEpoch}
 use Rattle.kp_cluster.proofs.EpochKeeping.{at_key, Remains}
-use Rattle.kp_cluster.proofs.EpochEntries.{origin_of, IsTaken, IsBegun, IsLeft, Going, apply_goes}
+use Rattle.kp_cluster.proofs.EpochEntries.{origin_of, Going, apply_goes}
 use Rattle.kp_cluster.proofs.EpochLists.{raised, epoch_in, found, numbered_on, next_on}
 use Rattle.kp_cluster.proofs.EpochMarks.{lives_last, last_push, after_push}
 use Rattle.kp_cluster.proofs.EpochPhases.{IsIn, Keeps}
@@ -206,21 +206,33 @@ for_others by_term e done m = refl
 for_others by_move e done m = no true m refl
 for_others by_end e done m = refl
 
-module _ (base : State) (done : List LogEntry) (s : State) (e : Option LogEntry) (t : State) (mine : Origin) where
-  serves_tells : (p : Phase) → PhaseServes base (done_by e done) t mine p → (q : Request) (r : WireReply) (c : Cause) → is_move c ≡ false → IsOfEpoch base done s e (told_by p (state_behind e s).applied q r c)
+state_others : (c : Cause) (e : Option LogEntry) (s : State) → is_move c ≡ false → state_for c e s ≡ state_behind e s
+state_others by_state e s m = refl
+state_others by_entry e s m = refl
+state_others by_lack e s m = refl
+state_others by_term e s m = refl
+state_others by_move e s m = no true m refl
+state_others by_end e s m = refl
+
+module _ (base : State) (done : List LogEntry) (s : State) (e : Option LogEntry) (mine : Origin) where
+  serves_tells : (p : Phase) → PhaseServes base (done_by e done) (state_behind e s) mine p → (q : Request) (r : WireReply) (c : Cause) → is_move c ≡ false → IsOfEpoch base done s e (told_by p (state_behind e s).applied q r c)
   serves_tells phase.Fresh h q r c m n = no true n refl
   serves_tells (phase.Connecting ro) h q r c m n = no true n refl
-  serves_tells (phase.Live id epoch k) h q r c m n = (refl, ap (λ es. last_epoch base es id) (for_others c e done m) ∙ h.last)
+  serves_tells (phase.Live id epoch k) h q r c m n = record {
+    index = refl;
+    last = ap (λ es. last_epoch base es id) (for_others c e done m) ∙ h.last;
+    current = λ x is. (h.current x (ap (λ (u : State). map.get u.sessions id) (sym (state_others c e s m)) ∙ is)).0;
+  }
   serves_tells (phase.Closing lost) h q r c m n = no true n refl
 
-  pub serves_suits : Suits (PhaseServes base (done_by e done) t mine) (IsOfEpoch base done s e) (state_behind e s).applied
-  serves_suits = record { keeps = serves_keeps base (done_by e done) t mine; tells = serves_tells }
+  pub serves_suits : Suits (PhaseServes base (done_by e done) (state_behind e s) mine) (IsOfEpoch base done s e) (state_behind e s).applied
+  serves_suits = record { keeps = serves_keeps base (done_by e done) (state_behind e s) mine; tells = serves_tells }
 
   -- -118 is of the epoch before the entry
   pub moved_tells : (p : Phase) → PhaseServes base done s mine p → (q : Request) (r : WireReply) → IsOfEpoch base done s e (told_by p (state_behind e s).applied q r by_move)
   moved_tells phase.Fresh h q r n = no true n refl
   moved_tells (phase.Connecting ro) h q r n = no true n refl
-  moved_tells (phase.Live id epoch k) h q r n = (refl, h.last)
+  moved_tells (phase.Live id epoch k) h q r n = record { index = refl; last = h.last; current = λ x is. (h.current x is).0 }
   moved_tells (phase.Closing lost) h q r n = no true n refl
 
 pub serves_shuts : (base : State) (done : List LogEntry) (s : State) (mine : Origin) → Shuts (PhaseServes base done s mine)

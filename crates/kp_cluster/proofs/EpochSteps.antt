@@ -1,9 +1,8 @@
 -- In every step each live connection serves its session, and each answer is of its epoch.
-use Rattle.std.proofs.Common.{◌≡◌, ℕ, ◌==◌, Bool, true, false, ◌&&◌, not, cond, List, [], ◌∷◌, ◌++◌, length, Option, Some, None, refl, ap, sym, subst, ◌∙◌, eqb-true}
+use Rattle.std.proofs.Common.{◌≡◌, ℕ, ◌==◌, Bool, true, false, ◌&&◌, not, List, [], ◌∷◌, ◌++◌, length, Option, Some, None, refl, sym, subst, eqb-true}
 use Rattle.std.proofs.lemmas.Bool.{eq-eqb}
-use Rattle.std.specs.Prelude.{if◌then◌else◌, nat_lt, is_some}
+use Rattle.std.specs.Prelude.{if◌then◌else◌, nat_lt}
 use Rattle.std.specs.List.{AllByRecursion}
-use Rattle.std.specs.Ordering.{nat_cmp}
 use Rattle.std.specs.FinMap as map
 use Rattle.kp_model.specs.declared.entry.Body.{Body}
 use Rattle.kp_model.specs.declared.entry.Body.TheVariants as body
@@ -14,14 +13,11 @@ use Rattle.kp_model.specs.declared.session.Origin.{Origin}
 use Rattle.kp_model.specs.declared.session.Session.{Session}
 use Rattle.kp_model.specs.LogEntry.{LogEntry}
 use Rattle.kp_model.specs.State.{State, same_origin}
-use Rattle.kp_model.specs.Step.{Outcome, apply}
+use Rattle.kp_model.specs.Step.{apply}
 use Rattle.kp_model.specs.Store.{after}
 use Rattle.kp_model.specs.Taken.{is_stale}
 use Rattle.kp_model.proofs.Maps.{same_value, no_value}
-use Rattle.kp_raft.specs.declared.mail.Mail.{Mail}
 use Rattle.kp_raft.specs.Parts as raft
-use Rattle.kp_event.specs.declared.event.NodeEventKind.{NodeEventKind}
-use Rattle.kp_event.specs.declared.event.NodeEventKind.TheVariants as kind
 use Rattle.kp_wire.specs.declared.connect.ConnectRequest.{ConnectRequest}
 use Rattle.kp_wire.specs.declared.request.Request.{Request}
 use Rattle.kp_wire.specs.declared.reply.WireReply.{WireReply}
@@ -35,29 +31,27 @@ use Rattle.kp_conn.specs.declared.waiting.Waiting.{Waiting}
 use Rattle.kp_conn.specs.Queue.{awaited}
 use Rattle.kp_conn.specs.declared.phase.Phase.{Phase}
 use Rattle.kp_conn.specs.declared.phase.Phase.TheVariants as phase
-use Rattle.kp_conn.specs.Connection.{Connection, blank, closed, drained, opened, put, serving, is_over}
+use Rattle.kp_conn.specs.Connection.{Connection, closed, opened, put, serving, is_over}
 use Rattle.kp_conn.specs.Fed.{fed}
 use Rattle.kp_conn.specs.Packets.{connect_packet}
 use Rattle.kp_step.specs.declared.seat.Seat.{Seat}
 use Rattle.kp_step.specs.Choices.{Choices, Luck}
-use Rattle.kp_step.specs.Node.{Node, Seats, Images}
+use Rattle.kp_step.specs.Node.{Node}
 use Rattle.kp_step.specs.Answers.{code_of, by_term, by_move, by_end}
-use Rattle.kp_step.specs.Settling.{Told, Settled, settled, stays, refused_if, given_out, told_by}
-use Rattle.kp_step.specs.Handing.{Ground, Desk, Joined, Served, served, joined_all, first_served, served_as, serves, ended_by, ground, desk, greeting, greeted_as, is_refused, is_led}
-use Rattle.kp_step.specs.Tables.{Table, Row, tabled, with_row, with_served, seated, settled_all}
-use Rattle.kp_step.specs.Applying.{upcoming}
+use Rattle.kp_step.specs.Settling.{Told, settled, stays, given_out, told_by}
+use Rattle.kp_step.specs.Handing.{Ground, Desk, Served, served, joined_all, first_served, served_as, serves, ended_by, ground, desk, greeting, greeted_as, is_refused, is_led}
+use Rattle.kp_step.specs.Tables.{Table, tabled}
 use Rattle.kp_step.specs.Committing.{hears, packets_for, is_of, is_in, replied_in, replied_to, attached_to, applied_to, meaning, newcomer, session_of, session_at, number_in, greeted_in, greeted_at, greeted_by, greeted, informed, committed}
-use Rattle.kp_step.specs.Asking.{Words, client_served, fed_end}
-use Rattle.kp_step.specs.Step.{Turn, accept_turn, hears_client, client_turn, client_table, fed_turn, drain_turn, commit_turn, raft_turn, raft_table, risen_as, risen, ended, rose, with_row_if, turned, applies}
+use Rattle.kp_step.specs.Asking.{Words, client_served}
+use Rattle.kp_step.specs.Step.{client_table, raft_table, risen_as, risen, ended, rose, with_row_if}
 use Rattle.kp_step.specs.Runs.{done_by}
 use Rattle.kp_step.proofs.Tables.{no}
 use Rattle.kp_step.proofs.Serves.{choose}
 use Rattle.kp_cluster.specs.Epochs.{IsNumbered, attaches}
-use Rattle.kp_cluster.specs.Serving.{conn_at, Serves, PhaseServes, state_behind, IsOfEpoch}
-use Rattle.kp_cluster.proofs.EpochEntries.{origin_of}
-use Rattle.kp_cluster.proofs.EpochPhases.{Keeps, same_keeps, then_keeps, given_keeps, join_keeps, end_keeps, fed_keeps, first_keeps}
-use Rattle.kp_cluster.proofs.EpochTables.{AtSeat, AllAt, insert_all, remove_all, IsFine, IsFit, RowFits, row_fine, row_if_fine, served_fine, Suits, settled_fits, settle_all_fine, Shuts, refuse_if_fits}
-use Rattle.kp_cluster.proofs.EpochServing.{PhaseSpared, phase_on, IsFor, newcomer_is, newcomer_serves, over_serves, serves_suits, moved_tells, serves_shuts}
+use Rattle.kp_cluster.specs.Serving.{conn_at, PhaseServes, state_behind, IsOfEpoch}
+use Rattle.kp_cluster.proofs.EpochPhases.{Keeps, given_keeps, join_keeps, end_keeps, fed_keeps, first_keeps}
+use Rattle.kp_cluster.proofs.EpochTables.{AtSeat, AllAt, IsFine, IsFit, RowFits, row_fine, row_if_fine, served_fine, Suits, settled_fits, settle_all_fine, Shuts, refuse_if_fits}
+use Rattle.kp_cluster.proofs.EpochServing.{PhaseSpared, phase_on, newcomer_is, newcomer_serves, serves_suits, moved_tells, serves_shuts}
 
 -- ---- bytes of a connection
 
@@ -233,14 +227,14 @@ module _ (base : State) (done : List LogEntry) (x : Node) (replay : x.state ≡ 
   Tells e k t = IsOfEpoch base done x.state e t
 
   abbrev pub suits : (e : Option LogEntry) (k : ℕ) → Suits (Behind e k) (Tells e k) (state_behind e x.state).applied
-  suits e k = serves_suits base done x.state e (state_behind e x.state) (conn_at x.me x.boot k)
+  suits e k = serves_suits base done x.state e (conn_at x.me x.boot k)
 
   means : (e : LogEntry) (k : ℕ) → Means (Before k) (Behind (Some e) k) (Tells (Some e) k) (apply x.state e).state.applied (conn_at x.me x.boot k) e.body (apply x.state e).reply
   means e k = record {
     on = phase_on base done x.state e replay numbered (conn_at x.me x.boot k);
     shut = serves_shuts base (done ++ e ∷ []) (apply x.state e).state (conn_at x.me x.boot k);
     suits = suits (Some e) k;
-    moves = moved_tells base done x.state (Some e) (apply x.state e).state (conn_at x.me x.boot k);
+    moves = moved_tells base done x.state (Some e) (conn_at x.me x.boot k);
   }
 
   pub committed_fine : (ch : Choices) (now : ℕ) (e : LogEntry) → AllAt Before x.seats → IsFine (Behind (Some e)) (Tells (Some e)) (committed ch x now e).table

@@ -1,5 +1,5 @@
 -- What holds of the phase of each connection of a table, and of each answer.
-use Rattle.std.proofs.Common.{◌≡◌, ℕ, Bool, true, false, cond, List, [], ◌∷◌, ◌++◌, Option, Some, None, is_some, refl, ap, sym, subst, ◌∙◌}
+use Rattle.std.proofs.Common.{◌≡◌, ℕ, Bool, true, false, cond, List, [], ◌∷◌, ◌++◌, Option, Some, None, refl, ap, sym, subst}
 use Rattle.std.specs.Prelude.{if◌then◌else◌}
 use Rattle.std.specs.Option.{option_map}
 use Rattle.std.specs.List.{AllByRecursion}
@@ -23,14 +23,14 @@ use Rattle.kp_step.specs.declared.seat.Seat.{Seat}
 use Rattle.kp_step.specs.Choices.{Choices, is_out, less}
 use Rattle.kp_step.specs.Node.{Seats}
 use Rattle.kp_step.specs.Answers.{Answer, Cause, by_state, by_entry, by_lack, by_term, by_move, by_end, code_of, answer_of, answer_by, unmarked, state_answer}
-use Rattle.kp_step.specs.Settling.{Told, Settled, settled, settled_so, refused, refused_if, telling, told_by, put_answer, with_queue, is_end, session_in, stays}
+use Rattle.kp_step.specs.Settling.{Told, Settled, settled, settled_so, refused, refused_if, telling, told_by, put_answer, with_queue, is_end, session_in}
 use Rattle.kp_step.specs.Handing.{Served}
-use Rattle.kp_step.specs.Tables.{Table, Row, row_at, row_told, with_row, with_served, more_at, seated, settled_in, settled_one, settled_all}
+use Rattle.kp_step.specs.Tables.{Table, Row, row_at, row_told, with_row, with_served, seated, settled_in, settled_one, settled_all}
 use Rattle.kp_step.specs.Step.{with_row_if}
-use Rattle.kp_step.proofs.Tables.{no, tied, get-insert, get-mapped}
+use Rattle.kp_step.proofs.Tables.{tied, get-insert, get-mapped}
 use Rattle.kp_step.proofs.Settles.{by_answer, state_cause}
 use Rattle.kp_step.proofs.Serves.{choose}
-use Rattle.kp_cluster.proofs.EpochPhases.{Keeps, same_keeps}
+use Rattle.kp_cluster.proofs.EpochPhases.{Keeps}
 
 -- ---- lists of answers
 

@@ -1,16 +1,14 @@
 -- All kinds of events, runs, and one list of entries.
-use Rattle.std.proofs.Common.{◌≡◌, ℕ, ◌+◌, ◌-◌, ◌==◌, ◌≤◌, Bool, true, false, ◌⊎◌, inl, inr, List, [], ◌∷◌, ◌++◌, length, take, Option, Some, None, refl, ap, sym, subst, ◌∙◌, arith}
+use Rattle.std.proofs.Common.{◌≡◌, ℕ, ◌-◌, true, inl, inr, List, [], ◌∷◌, ◌++◌, length, Option, Some, None, refl, ap, sym, subst, ◌∙◌, arith}
 use Rattle.std.proofs.lemmas.List.{take_all, take_at, length_push}
-use Rattle.std.specs.Prelude.{if◌then◌else◌}
 use Rattle.std.specs.List.{AllByRecursion}
 use Rattle.std.specs.Ordering.{nat_cmp}
 use Rattle.std.specs.FinMap as map
 use Rattle.kp_model.specs.LogEntry.{LogEntry}
+use Rattle.kp_model.specs.declared.session.Origin.{Origin}
 use Rattle.kp_model.specs.State.{State, empty}
-use Rattle.kp_model.specs.Step.{apply}
 use Rattle.kp_model.specs.Store.{after}
 use Rattle.kp_model.proofs.Applied.{applied-apply, applied-after}
-use Rattle.kp_entry.specs.Held.{Held}
 use Rattle.kp_raft.specs.declared.mail.Mail.{Mail}
 use Rattle.kp_raft.specs.Parts as raft
 use Rattle.kp_event.specs.declared.event.NodeEvent.{NodeEvent}
@@ -30,14 +28,15 @@ use Rattle.kp_step.specs.Asking.{Words, reacted, installed, asked, client_served
 use Rattle.kp_step.specs.Step.{Turn, hears_client, client_turn, fed_turn, drain_turn, commit_turn, raft_turn, turned, applies, together, step}
 use Rattle.kp_step.specs.Runs.{Run, begun, at_start, done_by, base_behind, done_behind, with_step, run}
 use Rattle.kp_step.proofs.Serves.{choose}
-use Rattle.kp_step.proofs.Turning.{heard_state, after_none, NoneOf, replayed}
+use Rattle.kp_step.proofs.Turning.{heard_state, after_none, after_all, NoneOf, replayed}
 use Rattle.kp_step.proofs.Advances.{asked_none, NoneUnlessMail}
 use Rattle.kp_cluster.specs.Epochs.{IsNumbered, last_epoch, IsShown}
-use Rattle.kp_cluster.specs.Serving.{conn_at, PhaseServes, SeatServes, AllServe, state_behind, entries_for, IsOfEpoch, IsServing, IsNumberedImage, ServingBegins, ServingGoesOn, AnswersAreOfTheirEpoch, IsShownOn, AnswersAreShown, AreNumbered, ServingInRuns}
+use Rattle.kp_cluster.specs.Serving.{conn_at, PhaseServes, SeatServes, state_behind, entries_for, IsOfEpoch, IsServing, IsNumberedImage, ServingBegins, ServingGoesOn, AnswersAreOfTheirEpoch, IsShownOn, AnswersAreShown, KeepsTo, AnswersKeepToAttaches, ServingFromBefore, AreNumbered, ServingInRuns}
 use Rattle.kp_cluster.proofs.EpochLists.{numbered_on}
-use Rattle.kp_cluster.proofs.EpochTables.{AtSeat, AllAt, insert_all, remove_all, IsFine}
+use Rattle.kp_cluster.proofs.EpochMarks.{last_anyhow, last_split, none_crosses, beginnings_show}
+use Rattle.kp_cluster.proofs.EpochTables.{AtSeat, AllAt, insert_all, remove_all}
 use Rattle.kp_cluster.proofs.EpochServing.{over_serves}
-use Rattle.kp_cluster.proofs.EpochSteps.{Before, Behind, Tells, Over, committed_fine, client_fine, raft_fine, image_fine}
+use Rattle.kp_cluster.proofs.EpochSteps.{Before, committed_fine, client_fine, raft_fine, image_fine}
 
 -- ---- what the events leave alone
 
@@ -66,9 +65,13 @@ module _ (base : State) (done : List LogEntry) (x : Node) (h : IsServing base do
   All = h.serves
 
   still : (t : Turn) → t.node.state ≡ x.state → t.node.me ≡ x.me → t.node.boot ≡ x.boot → t.node.seats ≡ x.seats → ((k : ℕ) → t.told k ≡ []) → IsTurned base done x None t
-  still t s m b e f = record { state = s; me = m; boot = b;
+  still t s m b e f = record {
+    state = s;
+    me = m;
+    boot = b;
     seats = λ k. subst (λ z. AtSeat (λ p. PhaseServes base done x.state (conn_at x.me x.boot k) p) (map.get z k)) (sym e) (h.serves k);
-    told = λ k. subst (AllByRecursion (λ u. IsOfEpoch base done x.state None u)) (sym (f k)) tt }
+    told = λ k. subst (AllByRecursion (λ u. IsOfEpoch base done x.state None u)) (sym (f k)) tt;
+  }
 
   client_turned : (words : Words) (ch : Choices) (now k : ℕ) (bytes : List ℕ) (o : Option Seat) → map.get x.seats k ≡ o → IsTurned base done x None (client_turn words ch x now k bytes o)
   client_turned words ch now k bytes None there = still _ refl refl refl refl (λ j. refl)
@@ -78,11 +81,15 @@ module _ (base : State) (done : List LogEntry) (x : Node) (h : IsServing base do
 
   drain_turned : (k : ℕ) (o : Option Seat) → map.get x.seats k ≡ o → IsTurned base done x None (drain_turn x k o)
   drain_turned k None there = still _ refl refl refl refl (λ j. refl)
-  drain_turned k (Some s) there = record { state = refl; me = refl; boot = refl;
+  drain_turned k (Some s) there = record {
+    state = refl;
+    me = refl;
+    boot = refl;
     seats = choose (AllAt (Before base done x h.replay h.numbered)) (is_over s.connection.phase) (map.remove x.seats k) (map.insert x.seats k (seated s (drained s.connection)))
         (remove_all (Before base done x h.replay h.numbered) x.seats k h.serves)
         (insert_all (Before base done x h.replay h.numbered) x.seats k (seated s (drained s.connection)) h.serves (subst (AtSeat (Before base done x h.replay h.numbered k)) there (h.serves k)));
-    told = λ j. tt }
+    told = λ j. tt;
+  }
 
   commit_turned : (ch : Choices) (now : ℕ) (o : Option LogEntry) → IsTurned base done x o (commit_turn ch x now o)
   commit_turned ch now None = still _ refl refl refl refl (λ j. refl)
@@ -94,8 +101,13 @@ module _ (base : State) (done : List LogEntry) (x : Node) (h : IsServing base do
 
     none_turned : (v : NodeEventKind (Mail I)) → IsTurned base done x (applies x v) (turned words im ch x now o None v)
     unfolding turned
-    none_turned (kind.Accept draw) = record { state = refl; me = refl; boot = refl;
-      seats = insert_all (Before base done x h.replay h.numbered) x.seats x.next (record { draw = draw; connection = blank }) h.serves tt; told = λ j. tt }
+    none_turned (kind.Accept draw) = record {
+      state = refl;
+      me = refl;
+      boot = refl;
+      seats = insert_all (Before base done x h.replay h.numbered) x.seats x.next (record { draw = draw; connection = blank }) h.serves tt;
+      told = λ j. tt;
+    }
     none_turned (kind.Client k bytes) = client_turned words ch now k bytes (map.get x.seats k) refl
     none_turned (kind.Hangup k) = record { state = refl; me = refl; boot = refl; seats = remove_all (Before base done x h.replay h.numbered) x.seats k h.serves; told = λ j. tt }
     none_turned (kind.Drain k) = drain_turned k (map.get x.seats k) refl
@@ -243,8 +255,38 @@ module _ (done : List LogEntry) (id epoch z : ℕ) where
   by_cause by_end e l h = whole (done_by e done) l h
 
 one_shown : (done : List LogEntry) (s : State) (e : Option LogEntry) → s ≡ after empty done → (t : Told) → IsOfEpoch empty done s e t → IsShownOn (done_by e done) t
-one_shown done s e h t w n = let v = w n in let l = v.0 ∙ index_behind s e done h in (l, by_cause done t.session t.epoch t.zxid t.cause e l v.1)
+one_shown done s e h t w n = let v = w n in let l = v.index ∙ index_behind s e done h in (l, by_cause done t.session t.epoch t.zxid t.cause e l v.last)
 
 pub answers_shown : (I : Type 0) → AnswersAreShown I
 answers_shown I words im ch x v done h k = let e = (step words im ch x v).applied in
     all_map (λ t. IsOfEpoch empty done x.state e t) (λ t. IsShownOn (done_by e done) t) (one_shown done x.state e h.replay) ((step words im ch x v).told k) (answers_of_epoch I words im ch x v empty done h k)
+
+one_keeps : (es more : List LogEntry) (t : Told) → IsShownOn es t → KeepsTo (es ++ more) t
+one_keeps es more t h n i new a = let s = h n in let l = s.0 in none_crosses (es ++ more) t.zxid i t.session t.epoch new (beginnings_show es more t.zxid t.session t.epoch (omega (arith, l)) s.1) a
+
+pub answers_keep : (I : Type 0) → AnswersKeepToAttaches I
+answers_keep I words im ch x v done more h k = let es = done_by (step words im ch x v).applied done in
+    all_map (λ t. IsShownOn es t) (λ t. KeepsTo (es ++ more) t) (one_keeps es more) ((step words im ch x v).told k) (answers_shown I words im ch x v done h k)
+
+-- ---- a longer history
+
+before_serves : (start base : State) (front done : List LogEntry) (s : State) (mine : Origin) (p : Phase) → base ≡ after start front → PhaseServes base done s mine p → PhaseServes start (front ++ done) s mine p
+before_serves start base front done s mine phase.Fresh e h = tt
+before_serves start base front done s mine (phase.Connecting ro) e h = tt
+before_serves start base front done s mine (phase.Live id epoch n) e h = record {
+  given = h.given;
+  last = last_split None start front done id ∙ last_anyhow (last_epoch start front id) (after start front) done id epoch (ap (λ b. last_epoch b done id) (sym e) ∙ h.last);
+  current = h.current;
+}
+before_serves start base front done s mine (phase.Closing lost) e h = tt
+
+before_seat : (start base : State) (front done : List LogEntry) (s : State) (mine : Origin) (o : Option Seat) → base ≡ after start front → SeatServes base done s mine o → SeatServes start (front ++ done) s mine o
+before_seat start base front done s mine None e h = tt
+before_seat start base front done s mine (Some y) e h = before_serves start base front done s mine y.connection.phase e h
+
+pub serving_from_before : ServingFromBefore
+serving_from_before start base front done x e h = record {
+  numbered = h.numbered;
+  replay = h.replay ∙ ap (λ b. after b done) e ∙ sym (after_all start front done);
+  serves = λ k. before_seat start base front done x.state (conn_at x.me x.boot k) (map.get x.seats k) e (h.serves k);
+}

@@ -1,5 +1,5 @@
 -- Which sessions the live connections of a node serve, and of which epochs its answers are.
-use Rattle.std.specs.Prelude.{◌≡◌, ◌<◌, ◌==◌, ℕ, Bool, true, false, List, [], ◌∷◌, length, Option, Some, None}
+use Rattle.std.specs.Prelude.{◌≡◌, ◌<◌, ◌≤◌, ◌+◌, ◌==◌, ℕ, true, false, List, [], ◌∷◌, ◌++◌, length, Option, Some, None}
 use Rattle.std.specs.List.{AllByRecursion}
 use Rattle.std.specs.FinMap as map
 use Rattle.kp_model.specs.declared.session.Session.{Session}
@@ -19,9 +19,9 @@ use Rattle.kp_step.specs.Choices.{Choices}
 use Rattle.kp_step.specs.Node.{Node, Images}
 use Rattle.kp_step.specs.Asking.{Words}
 use Rattle.kp_step.specs.Settling.{Told}
-use Rattle.kp_step.specs.Step.{Stepped, step}
+use Rattle.kp_step.specs.Step.{step}
 use Rattle.kp_step.specs.Runs.{Run, begun, at_start, done_by, base_behind, done_behind, with_step, run}
-use Rattle.kp_cluster.specs.Epochs.{IsNumbered, last_epoch, IsShown}
+use Rattle.kp_cluster.specs.Epochs.{IsNumbered, last_epoch, IsShown, IsAttach}
 
 -- ---- a live connection
 
@@ -62,9 +62,22 @@ abbrev pub entries_for : Cause → Option LogEntry → List LogEntry → List Lo
 entries_for by_move e done = done
 entries_for c e done = done_by e done
 
--- an answer to a live connection shows the index of the state, and its epoch is the last that its session had
+-- the state of which its epoch is: that before the entry, or that behind it
+abbrev pub state_for : Cause → Option LogEntry → State → State
+state_for by_move e s = s
+state_for c e s = state_behind e s
+
+pub record IsFrom (base : State) (done : List LogEntry) (s : State) (e : Option LogEntry) (t : Told) : Type 0 where
+  -- the answer shows the index of the state on which the step answers
+  pub index : t.zxid ≡ (state_behind e s).applied
+  -- its epoch is the one that its session has there, or had last
+  pub last : last_epoch base (entries_for t.cause e done) t.session ≡ Some t.epoch
+  -- a session that lives there has exactly this epoch
+  pub current : (x : Session) → map.get (state_for t.cause e s).sessions t.session ≡ Some x → x.epoch ≡ t.epoch
+
+-- of an answer to a live connection
 abbrev pub IsOfEpoch : State → List LogEntry → State → Option LogEntry → Told → Type 0
-IsOfEpoch base done s e t = (t.session == 0) ≡ false → (t.zxid ≡ (state_behind e s).applied) × (last_epoch base (entries_for t.cause e done) t.session ≡ Some t.epoch)
+IsOfEpoch base done s e t = (t.session == 0) ≡ false → IsFrom base done s e t
 
 -- ---- one step
 
@@ -87,6 +100,10 @@ abbrev pub ServingGoesOn : Type 0 → Type 0
 ServingGoesOn I = (words : Words) (im : Images I) (ch : Choices) (x : Node) (v : NodeEvent (Mail I)) (base : State) (done : List LogEntry) → IsServing base done x → IsNumberedImage im (step words im ch x v).installed
     → IsServing (base_behind im (step words im ch x v).installed base) (done_behind (step words im ch x v).installed (step words im ch x v).applied done) (step words im ch x v).node
 
+-- a history may begin before the base
+abbrev pub ServingFromBefore : Type 0
+ServingFromBefore = (start base : State) (front done : List LogEntry) (x : Node) → base ≡ after start front → IsServing base done x → IsServing start (front ++ done) x
+
 -- what a step answers
 abbrev pub AnswersAreOfTheirEpoch : Type 0 → Type 0
 AnswersAreOfTheirEpoch I = (words : Words) (im : Images I) (ch : Choices) (x : Node) (v : NodeEvent (Mail I)) (base : State) (done : List LogEntry) → IsServing base done x
@@ -100,6 +117,15 @@ IsShownOn es t = (t.session == 0) ≡ false → (t.zxid ≡ length es) × IsShow
 abbrev pub AnswersAreShown : Type 0 → Type 0
 AnswersAreShown I = (words : Words) (im : Images I) (ch : Choices) (x : Node) (v : NodeEvent (Mail I)) (done : List LogEntry) → IsServing empty done x
     → (k : ℕ) → AllByRecursion (λ (t : Told). IsShownOn (done_by (step words im ch x v).applied done) t) ((step words im ch x v).told k)
+
+-- an answer keeps to the attaches of its session on a list: one of an older epoch shows at most the index of the attach, and one of its epoch or a newer one at least that
+abbrev pub KeepsTo : List LogEntry → Told → Type 0
+KeepsTo es t = (t.session == 0) ≡ false → (i new : ℕ) → IsAttach es i t.session new → (t.epoch < new → t.zxid ≤ i + 1) × (new ≤ t.epoch → i + 1 ≤ t.zxid)
+
+-- each answer of a step does so, on any list that begins with the entries that the node has applied then
+abbrev pub AnswersKeepToAttaches : Type 0 → Type 0
+AnswersKeepToAttaches I = (words : Words) (im : Images I) (ch : Choices) (x : Node) (v : NodeEvent (Mail I)) (done more : List LogEntry) → IsServing empty done x
+    → (k : ℕ) → AllByRecursion (λ (t : Told). KeepsTo (done_by (step words im ch x v).applied done ++ more) t) ((step words im ch x v).told k)
 
 -- ---- runs
 

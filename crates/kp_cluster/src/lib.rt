@@ -4,5 +4,7 @@
 mod epochs;
 mod serving;
 
-pub use epochs::{epochs_rise_by_attaching, no_answer_crosses_an_attach};
-pub use serving::{answers_are_of_their_epoch, live_connections_are_current};
+pub use epochs::epochs_rise_by_attaching;
+pub use serving::{
+    answers_are_of_their_epoch, live_connections_are_current, no_answer_crosses_an_attach,
+};

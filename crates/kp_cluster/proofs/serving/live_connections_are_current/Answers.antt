@@ -1,4 +1,4 @@
-use Rattle.kp_cluster.proofs.EpochTurns.{serving_begins, serving_goes_on, serving_in_runs}
+use Rattle.kp_cluster.proofs.EpochTurns.{serving_begins, serving_goes_on, serving_in_runs, serving_from_before}
 use Rattle.kp_cluster.proofs.serving.live_connections_are_current.Goals as goal
 
 pub returns-clause-start : goal.returns-clause-start
@@ -9,3 +9,6 @@ returns-clause-step g c = serving_goes_on g.row.I.Denot
 
 pub returns-clause-runs : goal.returns-clause-runs
 returns-clause-runs g c = serving_in_runs g.row.I.Denot
+
+pub returns-clause-before : goal.returns-clause-before
+returns-clause-before g c = serving_from_before

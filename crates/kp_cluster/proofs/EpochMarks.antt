@@ -192,3 +192,24 @@ none_crosses es z i id epoch new w a = let m = attach_marks es i id new a in
 pub beginnings_show : BeginningsShow
 beginnings_show es more z id epoch le (inl h) = inl (ap (λ xs. last_epoch empty xs id) (take-append-le z es more le) ∙ h)
 beginnings_show es more z id epoch le (inr h) = inr (ap (λ xs. last_epoch empty xs id) (take-append-le (z - 1) es more (omega (arith, le))) ∙ h)
+
+get_longer : (es more : List LogEntry) (i : ℕ) (e : LogEntry) → slice_get es i ≡ Some e → slice_get (es ++ more) i ≡ Some e
+get_longer [] more i e there = absurd (no_value e (sym there))
+get_longer (d ∷ es) more zero e there = there
+get_longer (d ∷ es) more (suc i) e there = get_longer es more i e there
+
+take_longer : (es more : List LogEntry) (i : ℕ) (e : LogEntry) → slice_get es i ≡ Some e → take i (es ++ more) ≡ take i es
+take_longer [] more i e there = absurd (no_value e (sym there))
+take_longer (d ∷ es) more zero e there = refl
+take_longer (d ∷ es) more (suc i) e there = ap (λ xs. d ∷ xs) (take_longer es more i e there)
+
+-- an attach on the beginning of a list is one on the whole
+pub attach_longer : (es more : List LogEntry) (i id new : ℕ) → IsAttach es i id new → IsAttach (es ++ more) i id new
+attach_longer es more i id new a = record {
+  entry = a.entry;
+  there = get_longer es more i a.entry a.there;
+  passwd = a.passwd;
+  origin = a.origin;
+  body = a.body;
+  reply = ap (λ xs. (apply (after empty xs) a.entry).reply) (take_longer es more i a.entry a.there) ∙ a.reply;
+}

@@ -1,5 +1,6 @@
 -- All kinds of events, runs, and one list of entries.
-use Rattle.std.proofs.Common.{◌≡◌, ℕ, ◌-◌, true, inl, inr, List, [], ◌∷◌, ◌++◌, length, Option, Some, None, refl, ap, sym, subst, ◌∙◌, arith}
+use mathlib.Core.List.{IsPrefix}
+use Rattle.std.proofs.Common.{append-nil, ◌⊎◌, ◌≡◌, ℕ, ◌-◌, true, inl, inr, List, [], ◌∷◌, ◌++◌, length, Option, Some, None, refl, ap, sym, subst, ◌∙◌, arith}
 use Rattle.std.proofs.lemmas.List.{take_all, take_at, length_push}
 use Rattle.std.specs.List.{AllByRecursion}
 use Rattle.std.specs.Ordering.{nat_cmp}
@@ -30,10 +31,10 @@ use Rattle.kp_step.specs.Runs.{Run, begun, at_start, done_by, base_behind, done_
 use Rattle.kp_step.proofs.Serves.{choose}
 use Rattle.kp_step.proofs.Turning.{heard_state, after_none, after_all, NoneOf, replayed}
 use Rattle.kp_step.proofs.Advances.{asked_none, NoneUnlessMail}
-use Rattle.kp_cluster.specs.Epochs.{IsNumbered, last_epoch, IsShown}
-use Rattle.kp_cluster.specs.Serving.{conn_at, PhaseServes, SeatServes, state_behind, entries_for, IsOfEpoch, IsServing, IsNumberedImage, ServingBegins, ServingGoesOn, AnswersAreOfTheirEpoch, IsShownOn, AnswersAreShown, KeepsTo, AnswersKeepToAttaches, ServingFromBefore, AreNumbered, ServingInRuns}
-use Rattle.kp_cluster.proofs.EpochLists.{numbered_on}
-use Rattle.kp_cluster.proofs.EpochMarks.{last_anyhow, last_split, none_crosses, beginnings_show}
+use Rattle.kp_cluster.specs.Epochs.{IsNumbered, last_epoch, IsShown, IsAttach}
+use Rattle.kp_cluster.specs.Serving.{conn_at, PhaseServes, SeatServes, state_behind, entries_for, IsOfEpoch, IsServing, IsNumberedImage, ServingBegins, ServingGoesOn, AnswersAreOfTheirEpoch, IsShownOn, AnswersAreShown, KeepsTo, AnswersKeepToAttaches, ServingFromBefore, AreNumbered, ServingInRuns, StandsFor, entries_behind, StartsOnOneList, StepsOnOneList}
+use Rattle.kp_cluster.proofs.EpochLists.{numbered_on, numbered_along, none_numbered}
+use Rattle.kp_cluster.proofs.EpochMarks.{last_anyhow, last_split, none_crosses, beginnings_show, attach_longer}
 use Rattle.kp_cluster.proofs.EpochTables.{AtSeat, AllAt, insert_all, remove_all}
 use Rattle.kp_cluster.proofs.EpochServing.{over_serves}
 use Rattle.kp_cluster.proofs.EpochSteps.{Before, committed_fine, client_fine, raft_fine, image_fine}
@@ -261,12 +262,18 @@ pub answers_shown : (I : Type 0) → AnswersAreShown I
 answers_shown I words im ch x v done h k = let e = (step words im ch x v).applied in
     all_map (λ t. IsOfEpoch empty done x.state e t) (λ t. IsShownOn (done_by e done) t) (one_shown done x.state e h.replay) ((step words im ch x v).told k) (answers_of_epoch I words im ch x v empty done h k)
 
+-- on the whole of which the entries are the beginning
 one_keeps : (es more : List LogEntry) (t : Told) → IsShownOn es t → KeepsTo (es ++ more) t
 one_keeps es more t h n i new a = let s = h n in let l = s.0 in none_crosses (es ++ more) t.zxid i t.session t.epoch new (beginnings_show es more t.zxid t.session t.epoch (omega (arith, l)) s.1) a
 
+-- of a list that the entries begin, or that begins them
+either_keeps : (done es : List LogEntry) → IsPrefix done es ⊎ IsPrefix es done → (t : Told) → IsShownOn done t → KeepsTo es t
+either_keeps done es (inl p) t h = subst (λ z. KeepsTo z t) p.1 (one_keeps done p.0 t h)
+either_keeps done es (inr p) t h = λ n i new a. let s = h n in none_crosses done t.zxid i t.session t.epoch new s.1 (subst (λ z. IsAttach z i t.session new) p.1 (attach_longer es p.0 i t.session new a))
+
 pub answers_keep : (I : Type 0) → AnswersKeepToAttaches I
-answers_keep I words im ch x v done more h k = let es = done_by (step words im ch x v).applied done in
-    all_map (λ t. IsShownOn es t) (λ t. KeepsTo (es ++ more) t) (one_keeps es more) ((step words im ch x v).told k) (answers_shown I words im ch x v done h k)
+answers_keep I words im ch x v done es h p k = let now = done_by (step words im ch x v).applied done in
+    all_map (λ t. IsShownOn now t) (λ t. KeepsTo es t) (either_keeps now es p) ((step words im ch x v).told k) (answers_shown I words im ch x v done h k)
 
 -- ---- a longer history
 
@@ -290,3 +297,22 @@ serving_from_before start base front done x e h = record {
   replay = h.replay ∙ ap (λ b. after b done) e ∙ sym (after_all start front done);
   serves = λ k. before_seat start base front done x.state (conn_at x.me x.boot k) (map.get x.seats k) e (h.serves k);
 }
+
+-- ---- from the empty state on
+
+pub starts_on : StartsOnOneList
+starts_on me members boot now held s front e = let y = begun me members boot now held s in
+    subst (λ es. IsServing empty es y) (append-nil front) (serving_from_before empty s front [] y e (serving_begins me members boot now held s (subst IsNumbered (sym e) (numbered_along empty front none_numbered).0)))
+
+module _ {I : Type 0} (im : Images I) (list : List LogEntry) where
+  image_numbered : (image : Option I) → StandsFor im list image → IsNumberedImage im image
+  image_numbered None h = tt
+  image_numbered (Some i) h = subst IsNumbered (sym h) (numbered_along empty list none_numbered).0
+
+  on_one_list : (image : Option I) (e : Option LogEntry) (done : List LogEntry) (y : Node) → StandsFor im list image → IsServing (base_behind im image empty) (done_behind image e done) y → IsServing empty (entries_behind list image e done) y
+  on_one_list None e done y h s = s
+  on_one_list (Some i) e done y h s = subst (λ es. IsServing empty es y) (append-nil list) (serving_from_before empty (im.shows i) list [] y h s)
+
+pub steps_on : (I : Type 0) → StepsOnOneList I
+steps_on I words im ch x v done list h s = let o = step words im ch x v in
+    on_one_list im list o.installed o.applied done o.node s (serving_goes_on I words im ch x v empty done h (image_numbered im list o.installed s))

@@ -1,5 +1,6 @@
 -- Which sessions the live connections of a node serve, and of which epochs its answers are.
-use Rattle.std.specs.Prelude.{◌≡◌, ◌<◌, ◌≤◌, ◌+◌, ◌==◌, ℕ, true, false, List, [], ◌∷◌, ◌++◌, length, Option, Some, None}
+use mathlib.Core.List.{IsPrefix}
+use Rattle.std.specs.Prelude.{◌≡◌, ◌⊎◌, ◌<◌, ◌≤◌, ◌+◌, ◌==◌, ℕ, true, false, List, [], ◌∷◌, ◌++◌, length, Option, Some, None}
 use Rattle.std.specs.List.{AllByRecursion}
 use Rattle.std.specs.FinMap as map
 use Rattle.kp_model.specs.declared.session.Session.{Session}
@@ -104,7 +105,27 @@ ServingGoesOn I = (words : Words) (im : Images I) (ch : Choices) (x : Node) (v :
 abbrev pub ServingFromBefore : Type 0
 ServingFromBefore = (start base : State) (front done : List LogEntry) (x : Node) → base ≡ after start front → IsServing base done x → IsServing start (front ++ done) x
 
--- what a step answers
+-- ---- entries that are counted from the empty state on
+
+-- what an image stands for, where one was taken
+abbrev pub StandsFor : {I : Type 0} → Images I → List LogEntry → Option I → Type 0
+StandsFor im list None = Unit {0}
+StandsFor im list (Some i) = im.shows i ≡ after empty list
+
+-- the entries behind a step: those that an image stands for that was taken, or one more where one was applied
+abbrev pub entries_behind : {I : Type 0} → List LogEntry → Option I → Option LogEntry → List LogEntry → List LogEntry
+entries_behind list None e done = done_by e done
+entries_behind list (Some i) e done = list
+
+abbrev pub StartsOnOneList : Type 0
+StartsOnOneList = (me members boot now : ℕ) (held : Held) (s : State) (front : List LogEntry) → s ≡ after empty front → IsServing empty front (begun me members boot now held s)
+
+abbrev pub StepsOnOneList : Type 0 → Type 0
+StepsOnOneList I = (words : Words) (im : Images I) (ch : Choices) (x : Node) (v : NodeEvent (Mail I)) (done list : List LogEntry) → IsServing empty done x → StandsFor im list (step words im ch x v).installed
+    → IsServing empty (entries_behind list (step words im ch x v).installed (step words im ch x v).applied done) (step words im ch x v).node
+
+-- ---- what a step answers
+
 abbrev pub AnswersAreOfTheirEpoch : Type 0 → Type 0
 AnswersAreOfTheirEpoch I = (words : Words) (im : Images I) (ch : Choices) (x : Node) (v : NodeEvent (Mail I)) (base : State) (done : List LogEntry) → IsServing base done x
     → (k : ℕ) → AllByRecursion (λ (t : Told). IsOfEpoch base done x.state (step words im ch x v).applied t) ((step words im ch x v).told k)
@@ -122,10 +143,11 @@ AnswersAreShown I = (words : Words) (im : Images I) (ch : Choices) (x : Node) (v
 abbrev pub KeepsTo : List LogEntry → Told → Type 0
 KeepsTo es t = (t.session == 0) ≡ false → (i new : ℕ) → IsAttach es i t.session new → (t.epoch < new → t.zxid ≤ i + 1) × (new ≤ t.epoch → i + 1 ≤ t.zxid)
 
--- each answer of a step does so, on any list that begins with the entries that the node has applied then
+-- each answer of a step does so, on any list that begins with the entries that the node has applied then, or begins them
 abbrev pub AnswersKeepToAttaches : Type 0 → Type 0
-AnswersKeepToAttaches I = (words : Words) (im : Images I) (ch : Choices) (x : Node) (v : NodeEvent (Mail I)) (done more : List LogEntry) → IsServing empty done x
-    → (k : ℕ) → AllByRecursion (λ (t : Told). KeepsTo (done_by (step words im ch x v).applied done ++ more) t) ((step words im ch x v).told k)
+AnswersKeepToAttaches I = (words : Words) (im : Images I) (ch : Choices) (x : Node) (v : NodeEvent (Mail I)) (done es : List LogEntry) → IsServing empty done x
+    → IsPrefix (done_by (step words im ch x v).applied done) es ⊎ IsPrefix es (done_by (step words im ch x v).applied done)
+    → (k : ℕ) → AllByRecursion (λ (t : Told). KeepsTo es t) ((step words im ch x v).told k)
 
 -- ---- runs
 

@@ -1,7 +1,7 @@
 //! The laws of live connections and their answers. The contract of each function is a law; the function does nothing.
 
 ghost use Rattle.kp_cluster.specs.Epochs.{NoneCrosses, BeginningsShow};
-ghost use Rattle.kp_cluster.specs.Serving.{ServingBegins, ServingGoesOn, ServingFromBefore, ServingInRuns};
+ghost use Rattle.kp_cluster.specs.Serving.{ServingBegins, ServingGoesOn, ServingFromBefore, ServingInRuns, StartsOnOneList, StepsOnOneList};
 ghost use Rattle.kp_cluster.specs.Serving.{AnswersAreOfTheirEpoch, AnswersAreShown, AnswersKeepToAttaches};
 
 /// Each live connection of a node serves a session whose number was given out, in the epoch that the session has, or had
@@ -9,11 +9,15 @@ ghost use Rattle.kp_cluster.specs.Serving.{AnswersAreOfTheirEpoch, AnswersAreSho
 ///
 /// `start`: of a node that was just started. `step`: each step keeps it so, with images of any type whose sessions have
 /// numbers that were given out. `runs`: so in every run. `before`: the entries may be counted from any earlier state on.
+/// `starts`, `steps`: the same of a member whose entries are counted from the empty state on, and whose images each stand
+/// for such a list.
 pub fn live_connections_are_current<I>()
     ensures start { ServingBegins }
     ensures step { ServingGoesOn I }
     ensures runs { ServingInRuns I }
     ensures before { ServingFromBefore }
+    ensures starts { StartsOnOneList }
+    ensures steps { StepsOnOneList I }
 {}
 
 /// Each answer to a live connection shows the index of the committed state on which the step answers, and its epoch is
@@ -30,7 +34,7 @@ pub fn answers_are_of_their_epoch<I>()
 ///
 /// `order`: on any list of entries, of what is shown there. `longer`: what is shown on the beginning of a list is shown on
 /// the whole. `told`: so it is of each answer of each step of a node, on any list that begins with the entries that the
-/// node has applied; the members of a cluster that apply one list keep to each other's attaches.
+/// node has applied then, or begins them; so members whose entries begin one list keep to each other's attaches.
 pub fn no_answer_crosses_an_attach<I>()
     ensures order { NoneCrosses }
     ensures longer { BeginningsShow }

@@ -94,6 +94,7 @@ module _ (base : State) (done : List LogEntry) (s : State) (e : LogEntry) (repla
   serves_by : (mine : Origin) (id epoch : ℕ) → Serves base done s mine id epoch → Spared e.body (apply s e).reply mine id → Going (raised s) e.body (apply s e) id → Serves base (done ++ e ∷ []) (apply s e).state mine id epoch
   serves_by mine id epoch h spared (inl l) = let current = left_current (map.get s.sessions id) (map.get (apply s e).state.sessions id) epoch mine l.remains h.current in let lt = h.given in let le = next_on s e in record {
     given = omega (arith, lt, le);
+    some = h.some;
     last = last_on id epoch h.last (λ f is. let y = found (map.get (apply s e).state.sessions id) f is in sym y.1.1 ∙ (current y.0 y.1.0).0);
     current = current;
   }
@@ -170,10 +171,11 @@ newcomer_is me boot k (body.Expire session) e = absurd (no_value k (sym e))
 newcomer_is me boot k (body.Write session epoch seq c) e = absurd (no_value k (sym e))
 
 module _ (base : State) (done : List LogEntry) (s : State) (e : LogEntry) (replay : s ≡ after base done) (numbered : IsNumbered s) where
-  pub newcomer_serves : (mine : Origin) → IsFor e.body mine → (id : ℕ) (y : Session) → session_of e.body (apply s e).reply ≡ Some id → map.get (apply s e).state.sessions id ≡ Some y
+  pub newcomer_serves : (mine : Origin) → IsFor e.body mine → (id : ℕ) (y : Session) → (id == 0) ≡ false → session_of e.body (apply s e).reply ≡ Some id → map.get (apply s e).state.sessions id ≡ Some y
       → Serves base (done ++ e ∷ []) (apply s e).state mine id y.epoch
-  newcomer_serves mine for id y got there = let z = greets s e for.0 for.1.0 id got in record {
+  newcomer_serves mine for id y some got there = let z = greets s e for.0 for.1.0 id got in record {
     given = numbered_on s e numbered id y there;
+    some = some;
     last = lives_last None base (done ++ e ∷ []) id y.epoch (ap (λ t. epoch_of t id) (after_push base done e) ∙ ap (λ t. epoch_of (apply t e).state id) (sym replay) ∙ ap epoch_in there);
     current = λ x is. (ap (λ (w : Session). w.epoch) (same_value x y (sym is ∙ there)), ap (λ (w : Session). same_origin w.holder mine) (same_value x z.0 (sym is ∙ z.1.0)) ∙ ap (λ o. same_origin o mine) z.1.1 ∙ for.1.1);
   }

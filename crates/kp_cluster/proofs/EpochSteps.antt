@@ -53,6 +53,10 @@ use Rattle.kp_cluster.proofs.EpochPhases.{Keeps, given_keeps, join_keeps, end_ke
 use Rattle.kp_cluster.proofs.EpochTables.{AtSeat, AllAt, IsFine, IsFit, RowFits, row_fine, row_if_fine, served_fine, Suits, settled_fits, settle_all_fine, Shuts, refuse_if_fits}
 use Rattle.kp_cluster.proofs.EpochServing.{PhaseSpared, phase_on, newcomer_is, newcomer_serves, serves_suits, moved_tells, serves_shuts}
 
+either : {A : Type 0} (P : A → Type 0) (b : Bool) (x y : A) → P x → (b ≡ false → P y) → P (if b then x else y)
+either P true x y p q = p
+either P false x y p q = q refl
+
 -- ---- bytes of a connection
 
 -- a connection behind its bytes
@@ -91,12 +95,12 @@ module _ (P : Phase → Type 0) (T : Told → Type 0) where
 
   -- the connection that an entry makes live
   greet_given : (g : Ground) → Suits P T g.state.applied → Shuts P → (luck : Luck) (k : ℕ) (ws : List Watch) (d : Desk) (c : Connection) (ro : Bool) (id : Option ℕ) (o : Option Session) → session_at g.state id ≡ o
-      → ((i : ℕ) (y : Session) → id ≡ Some i → map.get g.state.sessions i ≡ Some y → P (phase.Live i y.epoch 1)) → IsGiven P T (greeted_as g luck k ws d c ro (number_in id) o)
+      → ((i : ℕ) (y : Session) → (i == 0) ≡ false → id ≡ Some i → map.get g.state.sessions i ≡ Some y → P (phase.Live i y.epoch 1)) → IsGiven P T (greeted_as g luck k ws d c ro (number_in id) o)
   greet_given g h shut luck k ws d c ro id None e new = record { phase = shut false; told = tt }
   greet_given g h shut luck k ws d c ro None (Some y) e new = absurd (no_value y (sym e))
   greet_given g h shut luck k ws d c ro (Some i) (Some y) e new = let b = opened (greeting ro i y) y.epoch c in
       served_given g h luck k ws (fed b []).0 d (fed b []).1 (h.keeps b.phase (fed b []).0.phase (fed_keeps b [])
-      (choose (λ (z : Connection). P z.phase) (i == 0) (closed false (put (connect_packet (greeting ro i y)) c)) (serving i y.epoch (put (connect_packet (greeting ro i y)) c)) (shut false) (new i y refl e)))
+      (either (λ (z : Connection). P z.phase) (i == 0) (closed false (put (connect_packet (greeting ro i y)) c)) (serving i y.epoch (put (connect_packet (greeting ro i y)) c)) (shut false) (λ some. new i y some refl e)))
 
 -- ---- what an entry means
 
@@ -188,7 +192,7 @@ module _ (P Q : Phase → Type 0) (T : Told → Type 0) (zxid me boot k : ℕ) w
 
 module _ (Q : ℕ → Phase → Type 0) (T : ℕ → Told → Type 0) (ch : Choices) (g : Ground) (suits : (k : ℕ) → Suits (Q k) (T k) g.state.applied) (shut : (k : ℕ) → Shuts (Q k)) (d : Desk) (id : Option ℕ) where
   abbrev Newly : ℕ → Type 0
-  Newly k = (i : ℕ) (y : Session) → id ≡ Some i → map.get g.state.sessions i ≡ Some y → Q k (phase.Live i y.epoch 1)
+  Newly k = (i : ℕ) (y : Session) → (i == 0) ≡ false → id ≡ Some i → map.get g.state.sessions i ≡ Some y → Q k (phase.Live i y.epoch 1)
 
   greet_in_fine : (t : Table) (k : ℕ) (x : Seat) (p : Phase) → Newly k → IsFine Q T t → IsFine Q T (greeted_in ch g d t id k x p).table
   greet_in_fine t k x phase.Fresh new f = f
@@ -243,7 +247,7 @@ module _ (base : State) (done : List LogEntry) (x : Node) (replay : x.state ≡ 
       settle_all_fine ch o.state (Behind (Some e)) (Tells (Some e)) (suits (Some e)) _ _
       (greet_fine (Behind (Some e)) (Tells (Some e)) ch (ground now o.state x) (suits (Some e)) (λ k. serves_shuts base (done ++ e ∷ []) o.state (conn_at x.me x.boot k)) (desk x) (session_of e.body o.reply)
       (informed ch x e.body o) (if is_stale o.reply then None else newcomer x.me x.boot e.body)
-      (λ k is i y got there. newcomer_serves base done x.state e replay numbered (conn_at x.me x.boot k) (newcomer_is x.me x.boot k e.body (in_time (is_stale o.reply) (newcomer x.me x.boot e.body) k is)) i y got there)
+      (λ k is i y some got there. newcomer_serves base done x.state e replay numbered (conn_at x.me x.boot k) (newcomer_is x.me x.boot k e.body (in_time (is_stale o.reply) (newcomer x.me x.boot e.body) k is)) i y some got there)
       (row_fine Before (Behind (Some e)) (Tells (Some e)) (meaning ch x.me x.boot o.state.applied e.body o.reply) _ (λ k c p. meaning_fits (Before k) (Behind (Some e) k) (Tells (Some e) k) o.state.applied x.me x.boot k ch e.body o.reply (means e k) c p)
       (row_fine Before Before (Tells (Some e)) (hears ch f.pairs) (tabled x.seats f.left) (hears_fits Before (Tells (Some e)) (λ k. (suits None k).keeps) ch f.pairs) (record { seats = all; told = λ k. tt }))))
 

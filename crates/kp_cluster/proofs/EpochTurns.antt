@@ -177,7 +177,7 @@ module _ (base : State) (done : List LogEntry) (x : Node) (h : IsServing base do
 
 -- ---- a step
 
-none_of : {I : Type 0} (words : Words) (im : Images I) (ch : Choices) (x : Node) (now : ℕ) (v : NodeEventKind (Mail I)) → NoneUnlessMail im x words ch now v → NoneOf v (installed x (asked words im ch x now v))
+pub none_of : {I : Type 0} (words : Words) (im : Images I) (ch : Choices) (x : Node) (now : ℕ) (v : NodeEventKind (Mail I)) → NoneUnlessMail im x words ch now v → NoneOf v (installed x (asked words im ch x now v))
 none_of words im ch x now (kind.Accept draw) n = n
 none_of words im ch x now (kind.Client k bytes) n = n
 none_of words im ch x now (kind.Hangup k) n = n
@@ -282,6 +282,7 @@ before_serves start base front done s mine phase.Fresh e h = tt
 before_serves start base front done s mine (phase.Connecting ro) e h = tt
 before_serves start base front done s mine (phase.Live id epoch n) e h = record {
   given = h.given;
+  some = h.some;
   last = last_split None start front done id ∙ last_anyhow (last_epoch start front id) (after start front) done id epoch (ap (λ b. last_epoch b done id) (sym e) ∙ h.last);
   current = h.current;
 }

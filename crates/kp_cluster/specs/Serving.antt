@@ -32,8 +32,9 @@ conn_at me boot k = record { node = me; boot = boot; conn = k }
 
 -- behind the entries from a base on, which lead to the state, a connection serves a session in an epoch
 pub record Serves (base : State) (done : List LogEntry) (s : State) (mine : Origin) (id epoch : ℕ) : Type 0 where
-  -- the session's number was given out
+  -- the session's number was given out, and isn't 0, which stands for no session
   pub given : id < s.next
+  pub some : (id == 0) ≡ false
   -- the epoch is the one that the session has, or had last where it is gone
   pub last : last_epoch base done id ≡ Some epoch
   -- a session that lives has exactly this epoch, and is held by this connection

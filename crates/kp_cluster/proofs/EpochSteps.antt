@@ -160,7 +160,7 @@ module _ (P Q : Phase → Type 0) (T : Told → Type 0) (zxid : ℕ) (mine : Ori
   attach_fits ch session passwd o (reply.Multi rs) m k c p = kept_fits (body.Attach session passwd o) (reply.Multi rs) m (λ id. refl) c c refl p
   attach_fits ch session passwd o (reply.Failed codes) m k c p = kept_fits (body.Attach session passwd o) (reply.Failed codes) m (λ id. refl) c c refl p
 
-replied_phase : (seq : ℕ) (r : Reply) (c : Connection) → (replied_to seq r c).phase ≡ c.phase
+pub replied_phase : (seq : ℕ) (r : Reply) (c : Connection) → (replied_to seq r c).phase ≡ c.phase
 replied_phase seq r c = by_wait (awaited seq c.queue) where
   by_wait : (o : Option Waiting) → (replied_in seq r c o).phase ≡ c.phase
   by_wait None = refl

@@ -7,3 +7,4 @@ pub mod EpochTables
 pub mod EpochServing
 pub mod EpochSteps
 pub mod EpochTurns
+pub mod EpochCloses

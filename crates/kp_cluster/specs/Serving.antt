@@ -5,15 +5,21 @@ use Rattle.std.specs.List.{AllByRecursion}
 use Rattle.std.specs.FinMap as map
 use Rattle.kp_model.specs.declared.session.Session.{Session}
 use Rattle.kp_model.specs.declared.session.Origin.{Origin}
+use Rattle.kp_model.specs.declared.command.Cmd.TheVariants as cmd
+use Rattle.kp_model.specs.declared.entry.Body.TheVariants as body
 use Rattle.kp_model.specs.LogEntry.{LogEntry}
 use Rattle.kp_model.specs.State.{State, empty, same_origin}
 use Rattle.kp_model.specs.Step.{apply}
 use Rattle.kp_model.specs.Store.{after}
+use Rattle.kp_model.specs.Taken.{is_stale}
 use Rattle.kp_entry.specs.Held.{Held}
 use Rattle.kp_raft.specs.declared.mail.Mail.{Mail}
 use Rattle.kp_event.specs.declared.event.NodeEvent.{NodeEvent}
 use Rattle.kp_conn.specs.declared.phase.Phase.{Phase}
 use Rattle.kp_conn.specs.declared.phase.Phase.TheVariants as phase
+use Rattle.kp_conn.specs.declared.waiting.Waiting.{Waiting}
+use Rattle.kp_conn.specs.Connection.{Connection, is_over}
+use Rattle.kp_conn.specs.Queue.{awaited, is_close}
 use Rattle.kp_step.specs.declared.seat.Seat.{Seat}
 use Rattle.kp_step.specs.Answers.{Cause, by_move}
 use Rattle.kp_step.specs.Choices.{Choices}
@@ -162,3 +168,24 @@ abbrev pub ServingInRuns : Type 0 → Type 0
 ServingInRuns I = (words : Words) (im : Images I) (me members boot now : ℕ) (held : Held) (s : State) → IsNumbered s
     → (es : List (Choices × NodeEvent (Mail I))) → AreNumbered words im (at_start (begun me members boot now held s)) es
     → let r = run words im (at_start (begun me members boot now held s)) es in IsServing r.base r.done r.node
+
+-- ---- a close
+
+-- the entry is a write that closes a session, and it isn't stale
+pub record IsClose (x : Node) (e : LogEntry) (id epoch seq : ℕ) : Type 0 where
+  pub body : e.body ≡ body.Write id epoch seq cmd.CloseSession
+  pub timely : is_stale (apply x.state e).reply ≡ false
+
+-- a connection serves the session in this epoch, and the first of its requests with this number is a close
+pub record Awaits (c : Connection) (id epoch seq : ℕ) : Type 0 where
+  pub next : ℕ
+  pub phase : c.phase ≡ phase.Live id epoch next
+  pub waiting : Waiting
+  pub there : awaited seq c.queue ≡ Some waiting
+  pub close : is_close waiting.request.ask ≡ true
+
+-- an entry that closes a session ends the connection that awaits it
+abbrev pub ClosesEndConnections : Type 0 → Type 0
+ClosesEndConnections I = (words : Words) (im : Images I) (ch : Choices) (x : Node) (v : NodeEvent (Mail I)) (e : LogEntry) (id epoch seq k : ℕ) (s t : Seat)
+    → (step words im ch x v).applied ≡ Some e → IsClose x e id epoch seq → map.get x.seats k ≡ Some s → Awaits s.connection id epoch seq
+    → map.get (step words im ch x v).node.seats k ≡ Some t → is_over t.connection.phase ≡ true

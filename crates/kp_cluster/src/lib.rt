@@ -6,5 +6,6 @@ mod serving;
 
 pub use epochs::epochs_rise_by_attaching;
 pub use serving::{
-    answers_are_of_their_epoch, live_connections_are_current, no_answer_crosses_an_attach,
+    answers_are_of_their_epoch, closes_end_their_connections, live_connections_are_current,
+    no_answer_crosses_an_attach,
 };

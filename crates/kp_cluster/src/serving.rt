@@ -2,7 +2,7 @@
 
 ghost use Rattle.kp_cluster.specs.Epochs.{NoneCrosses, BeginningsShow};
 ghost use Rattle.kp_cluster.specs.Serving.{ServingBegins, ServingGoesOn, ServingFromBefore, ServingInRuns, StartsOnOneList, StepsOnOneList};
-ghost use Rattle.kp_cluster.specs.Serving.{AnswersAreOfTheirEpoch, AnswersAreShown, AnswersKeepToAttaches};
+ghost use Rattle.kp_cluster.specs.Serving.{AnswersAreOfTheirEpoch, AnswersAreShown, AnswersKeepToAttaches, ClosesEndConnections};
 
 /// Each live connection of a node serves a session whose number was given out, in the epoch that the session has, or had
 /// last where it is gone; and a session that lives has exactly this epoch, and is held by this connection.
@@ -39,4 +39,10 @@ pub fn no_answer_crosses_an_attach<I>()
     ensures order { NoneCrosses }
     ensures longer { BeginningsShow }
     ensures told { AnswersKeepToAttaches I }
+{}
+
+/// At every step of every node: an entry that closes a session and isn't stale ends each connection that serves the
+/// session in the entry's epoch and awaits a close under the entry's number.
+pub fn closes_end_their_connections<I>()
+    ensures { ClosesEndConnections I }
 {}

@@ -1,3 +1,10 @@
+pub mod Rules
+pub mod Steps
+pub mod Mails
+pub mod Laid
+pub mod Links
+pub mod Runs
+pub mod WorldRuns
 pub mod EpochKeeping
 pub mod EpochEntries
 pub mod EpochLists
@@ -8,3 +15,4 @@ pub mod EpochServing
 pub mod EpochSteps
 pub mod EpochTurns
 pub mod EpochCloses
+pub mod EpochWorlds

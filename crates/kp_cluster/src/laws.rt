@@ -1,0 +1,30 @@
+//! The law of the nodes' world. The contract of each function is a law; the functions do nothing.
+
+ghost use Rattle.kp_cluster.specs.Laws.{OneList, StatesFold, WritesCount};
+ghost use Rattle.kp_cluster.specs.WorldRuns.{EntryIsApplied, ImageIsTaken};
+
+use kp_world::writes_act_once;
+
+/// Whatever happens to a cluster of any number of members, with messages that are lost, repeated and reordered, and with
+/// members that stop behind any record of a step and start again: their trees are one.
+///
+/// `one_list`: of what any two members have applied, at one moment and at any later one, one begins the other. `folds`:
+/// the committed state of each node that runs is the empty tree behind what its member has applied, and its uncommitted
+/// state that behind the unapplied entries of its log too. `counted`: of each session and epoch, the writes that act among
+/// what a member has applied are numbered 1, 2, 3 and so on, each once.
+pub fn one_tree<I>()
+    ensures one_list { OneList I }
+    ensures folds { StatesFold I }
+    ensures counted { WritesCount I }
+{
+    writes_act_once();
+}
+
+/// What may happen: runs of three members, so that the law is of something.
+///
+/// `applied`: a member is elected, and its entry is applied by it and by another while the third lags. `installed`: the
+/// third takes an image, stops and starts again.
+pub fn worlds_of_three()
+    ensures applied { EntryIsApplied }
+    ensures installed { ImageIsTaken }
+{}

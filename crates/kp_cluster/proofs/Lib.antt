@@ -2,7 +2,9 @@ pub mod Rules
 pub mod Steps
 pub mod Mails
 pub mod Laid
+pub mod Facts
 pub mod Links
+pub mod Hears
 pub mod Runs
 pub mod WorldRuns
 pub mod EpochKeeping

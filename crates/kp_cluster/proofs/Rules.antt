@@ -126,9 +126,6 @@ module _ {I : Type 0} (Q : I → Type 0) (T : ℕ → ℕ) (n me : ℕ) (h : Hel
       (λ _. still_fair (with_next v from end) [] refl tt))
       (λ _. term_fair t)
 
-  pub forward_fair : (t : ℕ) → IsFair (on_term h v t)
-  forward_fair t = term_fair t
-
   -- an append of a sender that has come to its term
   pub append_fair : (m : AppendMail) (j : ℕ) → m.term ≤ T m.from → IsFair (on_append me h v m j)
   append_fair m j sent = cond_cases IsFair (nat_lt m.term h.term) _ _

@@ -28,7 +28,8 @@ use Rattle.kp_cluster.specs.Laws.{AreFaithful, HaveOneList, OneList, Folds, Stat
 use Rattle.kp_cluster.proofs.Steps.{step_made, own_asked, commit_bodies}
 use Rattle.kp_cluster.proofs.Mails.{Known, known_at, all_grow}
 use Rattle.kp_cluster.proofs.Laid.{seen, below, terms, NodeFits, MemberFits, Laid, Goes, member_grows}
-use Rattle.kp_cluster.proofs.Links.{Link, link_goes, own_link, commit_link, bodies_link, mail_link}
+use Rattle.kp_cluster.proofs.Links.{Link, link_goes, own_link, commit_link, bodies_link}
+use Rattle.kp_cluster.proofs.Hears.{mail_link}
 
 module _ {I : Type 0} (words : Words) (im : Images I) (faithful : AreFaithful im) (n : ℕ) where
   -- nothing happens

@@ -1,5 +1,6 @@
 //! The law of the nodes' world. The contract of each function is a law; the functions do nothing.
 
+ghost use Rattle.kp_cluster.specs.Crossing.{AnswersKeepEarlier, AnswersKeepLater};
 ghost use Rattle.kp_cluster.specs.Laws.{OneList, StatesFold, WritesCount};
 ghost use Rattle.kp_cluster.specs.WorldRuns.{EntryIsApplied, ImageIsTaken};
 
@@ -11,11 +12,15 @@ use kp_world::writes_act_once;
 /// `one_list`: of what any two members have applied, at one moment and at any later one, one begins the other. `folds`:
 /// the committed state of each node that runs is the empty tree behind what its member has applied, and its uncommitted
 /// state that behind the unapplied entries of its log too. `counted`: of each session and epoch, the writes that act among
-/// what a member has applied are numbered 1, 2, 3 and so on, each once.
+/// what a member has applied are numbered 1, 2, 3 and so on, each once. `later`, `earlier`: no answer of an older epoch of a
+/// session shows an index above that of a newer attach of it, and none of the newer epoch shows one below it: of the
+/// attaches that any member has applied at any moment behind the answer, and at any moment before it.
 pub fn one_tree<I>()
     ensures one_list { OneList I }
     ensures folds { StatesFold I }
     ensures counted { WritesCount I }
+    ensures later { AnswersKeepLater I }
+    ensures earlier { AnswersKeepEarlier I }
 {
     writes_act_once();
 }

@@ -2,12 +2,10 @@
 //! crosses a take-over of its session.
 #![tactic(auto)]
 
-mod crossing;
 mod epochs;
 mod laws;
 mod serving;
 
-pub use crossing::no_answer_crosses_an_attach_in_worlds;
 pub use epochs::epochs_rise_by_attaching;
 pub use laws::{one_tree, worlds_of_three};
 pub use serving::{

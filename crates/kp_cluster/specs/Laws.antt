@@ -12,7 +12,7 @@ use Rattle.kp_cluster.specs.World.{Member, World, Event, run, world_after}
 pub record AreFaithful {I : Type 0} (im : Images I) : Type 0 where
   pub shows : (s : State) (t : ℕ) → im.shows (im.made s t) ≡ s
 
--- what holds of each world_after, with faithful images
+-- what holds of each world, with faithful images
 abbrev pub OfWorlds : (I : Type 0) → (ℕ → World I → Type 0) → Type 0
 OfWorlds I P = (words : Words) (im : Images I) → AreFaithful im → (n : ℕ) (events : List (Event I)) → P n (world_after words im n events)
 

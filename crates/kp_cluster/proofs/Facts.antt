@@ -24,7 +24,7 @@ use Rattle.kp_world.specs.Net.{Stored, full, Sent, front_behind, behind_records,
 use Rattle.kp_world.specs.Net as net
 use Rattle.kp_world.specs.Book.{Book}
 use Rattle.kp_world.proofs.Invariant.{Invariant}
-use Rattle.kp_world.proofs.Majorities.{InBoth, majorities_meet}
+use Rattle.kp_world.proofs.LeadersLogs.{leader_in_term}
 use Rattle.kp_world.proofs.Appending.{matched_most}
 use Rattle.kp_world.proofs.Link.{MessageFits, MailFits, MailsFit, cond_cases}
 
@@ -92,20 +92,6 @@ no_image true o e = e
 no_image false o e = refl
 
 -- ---- who sent a message
-
--- a leader has come to its term: those that voted for it say so
-pub leader_in_term : (n : ℕ) (b : Book) (t : ℕ) → Invariant n b → 0 < b.leader t → t ≤ b.term (b.leader t)
-leader_in_term n b t i some =
-    let f = λ (k : ℕ). nat_eq (b.voted_for k t) (b.leader t) in
-    let m : InBoth n f f = majorities_meet n f f (i.leader_votes t some) (i.leader_votes t some) in
-    let chose : nat_eq (b.voted_for m.0 t) (b.leader t) ≡ true = m.3 in
-    let is : b.voted_for m.0 t ≡ b.leader t = grind (arith, nat_tests) in
-    subst (λ c. t ≤ b.term c) is (i.candidate_term m.0 t (omega arith))
-
-pub mail_at : {I : Type 0} (n : ℕ) (b : Book) (ms : List (Sent I)) (i : ℕ) (m : Sent I) → MailsFit n b ms → slice_get ms i ≡ Some m → MailFits n b m.list (m.to, m.message)
-mail_at n b [] i m f e = absurd cc
-mail_at n b (x ∷ ms) zero m f e = let is : x ≡ m = cc in subst (λ y. MailFits n b y.list (y.to, y.message)) is f.0
-mail_at n b (x ∷ ms) (suc i) m f e = mail_at n b ms i m f.1 e
 
 -- the sender of entries or of an image has come to the term
 abbrev pub HasCome : {I : Type 0} → (ℕ → ℕ) → Mail I → Type 0

@@ -22,13 +22,14 @@ use Rattle.kp_world.specs.Net.{Stored, full, Sent, front_behind, behind_records,
 use Rattle.kp_world.specs.Net as net
 use Rattle.kp_world.proofs.Cases.{and_true}
 use Rattle.kp_world.proofs.Link.{HasNoBase, no_base_front, no_base_votes, cond_cases}
+use Rattle.kp_world.proofs.Worlds.{mail_at}
 use Rattle.kp_cluster.specs.World.{Member, World, done_after}
 use Rattle.kp_cluster.specs.Laws.{AreFaithful}
 use Rattle.kp_cluster.proofs.Rules.{Sends, AllSends, Knows, Fair, request_fair, vote_fair, rep_fair, append_fair, install_knows, install_sends, nothing_fair}
 use Rattle.kp_cluster.proofs.Steps.{IsBodies, bodies_if}
 use Rattle.kp_cluster.proofs.Mails.{IsInstall, Place, place_of, Known, IsOf}
 use Rattle.kp_cluster.proofs.Laid.{running_of, below, terms, NodeFits, Laid}
-use Rattle.kp_cluster.proofs.Facts.{one, one_is, front_below, base_front, no_image, HasCome, mail_at, come_at, come_filled, filled_same, room_taken, weighed_taken, taken_by_room}
+use Rattle.kp_cluster.proofs.Facts.{one, one_is, front_below, base_front, no_image, HasCome, come_at, come_filled, filled_same, room_taken, weighed_taken, taken_by_room}
 use Rattle.kp_cluster.proofs.Links.{Link, plain_plays, idle_link, bodies_link}
 
 module _ {I : Type 0} (n : ℕ) (im : Images I) (faithful : AreFaithful im) (w : World I) (l : Laid n im w) (s : Sent I) (x : Node) (runs : (w.members s.to).node ≡ Some x) (member : is_member n s.to ≡ true) where

@@ -4,6 +4,7 @@ pub mod Mails
 pub mod Laid
 pub mod Facts
 pub mod Links
+pub mod Longest
 pub mod Hears
 pub mod Runs
 pub mod WorldRuns

@@ -1,5 +1,5 @@
 -- What is said of each world: the members apply one list of entries, and their states are those of one tree that takes it.
-use Rattle.std.specs.Prelude.{◌≡◌, ◌⊎◌, ℕ, List, ◌++◌, length, Some}
+use Rattle.std.specs.Prelude.{◌≡◌, ◌≤◌, ◌⊎◌, ℕ, List, ◌++◌, length, take, Some}
 use mathlib.Core.List.{IsPrefix}
 use Rattle.kp_model.specs.State.{State, empty}
 use Rattle.kp_model.specs.Store.{after}
@@ -23,6 +23,19 @@ HaveOneList v w = (j k : ℕ) → IsPrefix (v.members j).done (w.members k).done
 abbrev pub OneList : Type 0 → Type 0
 OneList I = (words : Words) (im : Images I) → AreFaithful im → (n : ℕ) (events later : List (Event I))
     → HaveOneList (world_after words im n events) (run words im n later (world_after words im n events))
+
+-- the world behind the first i events
+abbrev pub world_at : {I : Type 0} → Words → Images I → ℕ → List (Event I) → ℕ → World I
+world_at words im n events i = world_after words im n (take i events)
+
+-- what one member has applied at one moment is begun by all that any member has applied at any moment
+pub record IsLongest {I : Type 0} (words : Words) (im : Images I) (n : ℕ) (events : List (Event I)) : Type 0 where
+  pub moment : ℕ
+  pub member : ℕ
+  pub all : (i k : ℕ) → i ≤ length events → k ≤ n → IsPrefix ((world_at words im n events i).members k).done ((world_at words im n events moment).members member).done
+
+abbrev pub HasLongest : Type 0 → Type 0
+HasLongest I = (words : Words) (im : Images I) → AreFaithful im → (n : ℕ) (events : List (Event I)) → IsLongest words im n events
 
 -- the committed state is that of the empty tree behind all that was applied, and the uncommitted one that behind the unapplied entries too
 pub record Folds (m : Member) (x : Node) : Type 0 where

@@ -1,7 +1,7 @@
 //! The law of the nodes' world. The contract of each function is a law; the functions do nothing.
 
 ghost use Rattle.kp_cluster.specs.Crossing.{AnswersKeepEarlier, AnswersKeepLater};
-ghost use Rattle.kp_cluster.specs.Laws.{OneList, StatesFold, WritesCount};
+ghost use Rattle.kp_cluster.specs.Laws.{HasLongest, OneList, StatesFold, WritesCount};
 ghost use Rattle.kp_cluster.specs.WorldRuns.{EntryIsApplied, ImageIsTaken};
 
 use kp_world::writes_act_once;
@@ -9,7 +9,8 @@ use kp_world::writes_act_once;
 /// Whatever happens to a cluster of any number of members, with messages that are lost, repeated and reordered, and with
 /// members that stop behind any record of a step and start again: their trees are one.
 ///
-/// `one_list`: of what any two members have applied, at one moment and at any later one, one begins the other. `folds`:
+/// `one_list`: of what any two members have applied, at one moment and at any later one, one begins the other. `longest`:
+/// what some member has applied at some moment is begun by all that any member has applied at any moment. `folds`:
 /// the committed state of each node that runs is the empty tree behind what its member has applied, and its uncommitted
 /// state that behind the unapplied entries of its log too. `counted`: of each session and epoch, the writes that act among
 /// what a member has applied are numbered 1, 2, 3 and so on, each once. `later`, `earlier`: no answer of an older epoch of a
@@ -17,6 +18,7 @@ use kp_world::writes_act_once;
 /// attaches that any member has applied at any moment behind the answer, and at any moment before it.
 pub fn one_tree<I>()
     ensures one_list { OneList I }
+    ensures longest { HasLongest I }
     ensures folds { StatesFold I }
     ensures counted { WritesCount I }
     ensures later { AnswersKeepLater I }

@@ -15,7 +15,7 @@ use Rattle.kp_world.proofs.Elect.{no_leader_yet}
 use Rattle.kp_world.proofs.Histories.{move_grows, move_keeps, moves_grow}
 
 -- a leader has come to its term: those that voted for it say so
-leader_in_term : (n : ℕ) (b : Book) (t : ℕ) → Invariant n b → 0 < b.leader t → t ≤ b.term (b.leader t)
+pub leader_in_term : (n : ℕ) (b : Book) (t : ℕ) → Invariant n b → 0 < b.leader t → t ≤ b.term (b.leader t)
 leader_in_term n b t i some =
     let f = λ (k : ℕ). nat_eq (b.voted_for k t) (b.leader t) in
     let m : InBoth n f f = majorities_meet n f f (i.leader_votes t some) (i.leader_votes t some) in

@@ -8,15 +8,16 @@ use Rattle.kp_world.specs.Net.{moment, OneList}
 use Rattle.kp_world.proofs.Takes.{take_shorter}
 use Rattle.kp_world.proofs.Worlds.{one_log_holds}
 
-abbrev Alike : List LogEntry → List LogEntry → Type 0
+-- one of them begins the other
+abbrev pub Alike : List LogEntry → List LogEntry → Type 0
 Alike xs ys = IsPrefix xs ys ⊎ IsPrefix ys xs
 
-record Longest (f : ℕ → List LogEntry) (n : ℕ) : Type 0 where
-  at : ℕ
-  within : at ≤ n
-  all : (j : ℕ) → j ≤ n → IsPrefix (f j) (f at)
+pub record Longest (f : ℕ → List LogEntry) (n : ℕ) : Type 0 where
+  pub at : ℕ
+  pub within : at ≤ n
+  pub all : (j : ℕ) → j ≤ n → IsPrefix (f j) (f at)
 
-longest : (f : ℕ → List LogEntry) → ((i j : ℕ) → Alike (f i) (f j)) → (n : ℕ) → Longest f n
+pub longest : (f : ℕ → List LogEntry) → ((i j : ℕ) → Alike (f i) (f j)) → (n : ℕ) → Longest f n
 longest f h zero = record { at = 0; within = omega arith; all = λ j l. let e : j ≡ 0 = omega arith in rw e (prefix_self (f 0)) }
 longest f h (suc n) = here (longest f h n)
   where
@@ -50,7 +51,7 @@ moments {I = I} n es i m j k l =
     let e : run n (take m es) blank ≡ run n w.0 (run n (take i es) blank) = ap (λ xs. run n xs blank) (sym w.1) ∙ run_append n (take i es) w.0 blank in
     subst (λ v. Alike ((moment n es i).nodes j).done (v.nodes k).done) (sym e) (one_log_holds I n (take i es) w.0 j k)
 
-turn : (xs ys : List LogEntry) → Alike xs ys → Alike ys xs
+pub turn : (xs ys : List LogEntry) → Alike xs ys → Alike ys xs
 turn xs ys (inl w) = inr w
 turn xs ys (inr w) = inl w
 

@@ -153,7 +153,7 @@ heard_by_ok : {I : Type 0} (n : ℕ) (b0 : Book) (w : Net I) (m : Sent I) (j : �
 heard_by_ok n b0 w m j stop None f is h = f
 heard_by_ok n b0 w m j stop (Some v) f is h = did_ok n b0 w m.to (hears n m.to (w.nodes m.to).stored.held v (w.nodes m.to).done m.message m.list j) stop f (hears_ok n m.to f.book (w.nodes m.to).stored v (w.nodes m.to).done m.list m.message j h.to f.inv (f.nodes m.to).stored ((f.nodes m.to).runs v is) h.message)
 
-mail_at : {I : Type 0} (n : ℕ) (b : Book) (ms : List (Sent I)) (i : ℕ) (m : Sent I) → MailsFit n b ms → slice_get ms i ≡ Some m → MailFits n b m.list (m.to, m.message)
+pub mail_at : {I : Type 0} (n : ℕ) (b : Book) (ms : List (Sent I)) (i : ℕ) (m : Sent I) → MailsFit n b ms → slice_get ms i ≡ Some m → MailFits n b m.list (m.to, m.message)
 mail_at n b [] i m f e = absurd cc
 mail_at n b (x ∷ ms) zero m f e = let is : x ≡ m = cc in subst (λ y. MailFits n b y.list (y.to, y.message)) is f.0
 mail_at n b (x ∷ ms) (suc i) m f e = mail_at n b ms i m f.1 e

@@ -11,3 +11,4 @@ pub mod Looking
 pub mod Earlier
 pub mod Beginning
 pub mod Carrying
+pub mod Telling

@@ -5,6 +5,7 @@ pub mod Ready
 pub mod Making
 pub mod Refusals
 pub mod Replaying
+pub mod Within
 pub mod Lifting
 pub mod Settling
 pub mod Looking

@@ -1,12 +1,15 @@
 -- What is told of a home without a change.
-use Rattle.std.proofs.Common.{◌≡◌, ℕ, Bool, true, false, Option, Some, None, Result, Ok, sym, ◌∙◌, ap, subst}
+use Rattle.std.specs.Prelude.{IfSome}
+use Rattle.kp_model.specs.LogEntry.{LogEntry}
+use Rattle.kp_snapshot.specs.Snapshots.{Snapshot}
+use Rattle.std.proofs.Common.{◌≡◌, ℕ, List, Bool, true, false, Option, Some, None, Ok, sym, ◌∙◌, ap, subst}
 use Rattle.kp_journal.specs.declared.head.Head.{Head}
 use Rattle.kp_journal.specs.Heads.{generation}
 use Rattle.kp_journal.specs.Journals.{Journaled}
 use Rattle.kp_homes.specs.declared.inspecting.LiveSlot.{LiveSlot}
 use Rattle.kp_homes.specs.declared.reading.Live.{Live}
 use Rattle.kp_homes.specs.Stands.{Bytes4, Stand, choice, stands}
-use Rattle.kp_homes.specs.Opening.{found}
+use Rattle.kp_homes.specs.Opening.{IsWithin, found}
 use Rattle.kp_homes.specs.Reading.{IsLive, found_of, seen}
 use Rattle.kp_homes.specs.Homes.{IsKept}
 use Rattle.kp_homes.specs.Inspects.{IsLiveSlot, journal_in}
@@ -34,3 +37,8 @@ told_live node b o l s finds live is second gen kept = by_parts (subst (λ (q : 
       found = finds ∙ ap (λ (q : Option Live). Ok (seen q)) is;
       kept = kept;
     }
+
+pub told_within : (o : Option Live) (l : Live) (s : LiveSlot) → IfSome o (λ v. IsWithin v.image v.replay.held.log.entries) → o ≡ Some l → IsKept s.kept (found_of l) → IsWithin s.kept.image s.kept.rest.items
+told_within o l s room is kept =
+    subst (λ (es : List LogEntry). IsWithin s.kept.image es) (sym kept.rest)
+    (subst (λ (i : Option Snapshot). IsWithin i l.replay.held.log.entries) (sym kept.image) (subst (λ (q : Option Live). IfSome q (λ v. IsWithin v.image v.replay.held.log.entries)) is room))

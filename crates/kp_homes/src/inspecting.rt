@@ -1,11 +1,11 @@
 //! What a home holds, told without a change.
 
-ghost use Rattle.std.specs.Prelude.{ℕ, ◌≡◌, ◌≤◌, OnOk, IsErrOf};
+ghost use Rattle.std.specs.Prelude.{ℕ, ◌≡◌, ◌≤◌, IfOk, IfSome, OnOk, IsErrOf};
 ghost use Rattle.kp_io.specs.Faults.{Rose};
 ghost use Rattle.kp_io.specs.Homes.{home_faults};
 ghost use Rattle.kp_homes.specs.declared.fail.HomeFail.TheVariants as home_fail;
 ghost use Rattle.kp_homes.specs.Stands.{Bytes4};
-ghost use Rattle.kp_homes.specs.Opening.{Holds};
+ghost use Rattle.kp_homes.specs.Opening.{Holds, IsWithin};
 ghost use Rattle.kp_homes.specs.Reading.{IsUntouched, found_of};
 ghost use Rattle.kp_homes.specs.Homes.{IsKept};
 ghost use Rattle.kp_homes.specs.Inspects.{Inspects};
@@ -60,6 +60,7 @@ pub fn inspect<H: Disk>(
     node: u8,
 ) -> Result<Option<LiveSlot>, HomeFail>
     ensures found { (b : Bytes4) → Holds H.held disks.old b → Inspects node b result }
+    ensures room { IfOk result (λ live. IfSome live (λ s. IsWithin s.kept.image s.kept.rest.items)) }
     ensures fault { IsErrOf result home_fail.DiskFault → Rose (home_faults H.faults disks.old) (home_faults H.faults disks.new) }
     ensures quiet { OnOk result (home_faults H.faults disks.new ≡ home_faults H.faults disks.old) }
     ensures no_full { (slot len : ℕ) → IsErrOf result (home_fail.Full slot len) → ⊥ }

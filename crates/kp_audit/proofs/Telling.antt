@@ -1,0 +1,65 @@
+-- The text of what was told of a home.
+use Rattle.std.proofs.Common.{◌≡◌, ℕ, Bool, List, [], ◌++◌, Option, Some, None, Ok, Err, refl, sym, ◌∙◌, ap, subst}
+use Rattle.kp_model.specs.Store.{Store, last, latest}
+use Rattle.kp_plain.specs.declared.store.Counts.{Counts}
+use Rattle.kp_plain.specs.Counted.{counts_of}
+use Rattle.kp_journal.specs.Heads.{generation}
+use Rattle.kp_homes.specs.declared.fail.HomeFail.{HomeFail}
+use Rattle.kp_homes.specs.declared.fail.HomeFail.TheVariants as home_fail
+use Rattle.kp_homes.specs.declared.inspecting.LiveSlot.{LiveSlot}
+use Rattle.kp_homes.specs.Stands.{Bytes4, choice, slot_number}
+use Rattle.kp_homes.specs.Opening.{Fails, found}
+use Rattle.kp_homes.specs.Inspects.{Inspects, IsLiveSlot, journal_in}
+use Rattle.kp_homes.proofs.Looking.{blank_finds}
+use Rattle.kp_homes.proofs.Refusals.{ok_err}
+use Rattle.kp_audit.specs.Texts.{store_of, numbers_text, line_text, slot_lines, found_text, live_text, told_text}
+use Rattle.kp_audit.specs.declared.fail.AuditFail.{AuditFail}
+use Rattle.kp_audit.specs.Audits.{Audits, audited, audited_by, fail_of, texted}
+use lib.Chars.{codes}
+
+live_told : (node : ℕ) (b : Bytes4) (s : LiveSlot) (is : IsLiveSlot node b s) → found_text (slot_number s.second) (generation (journal_in s.second b)) is.finds ≡ live_text s
+live_told node b s is = sym (λ i. slot_lines (slot_number s.second) (is.generation i) (is.kept.boot i) (is.kept.term i) (is.kept.vote i) (is.kept.image i) (is.kept.rest i))
+
+-- what was told of the home is its text
+pub told : (node : ℕ) (b : Bytes4) (o : Option LiveSlot) → Inspects node b (Ok o) → audited node b ≡ Ok (told_text o)
+unfolding audited
+told node b None is = ap (λ (c : Option Bool). audited_by c node b) is
+told node b (Some s) is =
+    ap (λ (c : Option Bool). audited_by c node b) is.live
+    ∙ ap (texted (slot_number s.second) (generation (journal_in s.second b))) is.found
+    ∙ ap (λ (t : List ℕ). Ok t) (live_told node b s is)
+
+-- what is refused at opening has no text
+pub refused : (node : ℕ) (b : Bytes4) (e : HomeFail) → found node b ≡ Err e → audited node b ≡ Err e
+unfolding audited
+refused node b e is = by_choice (choice b.j0 b.j1) refl
+  where
+    by_choice : (o : Option Bool) → choice b.j0 b.j1 ≡ o → audited_by o node b ≡ Err e
+    by_choice None none = ok_err _ _ _ (sym (blank_finds node b none) ∙ is)
+    by_choice (Some second) live = ap (texted (slot_number second) (generation (journal_in second b))) is
+
+pub refuses : (node : ℕ) (b : Bytes4) (old new : List ℕ) (e : HomeFail) (r : AuditFail) → r ≡ fail_of e → Inspects node b (Err e) → Audits (Err r) old new (audited node b)
+refuses node b old new e r is fails = subst (λ (f : AuditFail). Audits (Err f) old new (audited node b)) (sym is) (by_fail e fails)
+  where
+    by_fail : (e : HomeFail) → Fails e (found node b) → Audits (Err (fail_of e)) old new (audited node b)
+    by_fail home_fail.DiskFault fails = tt
+    by_fail (home_fail.Damaged slot at) fails = refused node b (home_fail.Damaged slot at) fails
+    by_fail (home_fail.Full slot len) fails = absurd fails
+    by_fail home_fail.NoMemory fails = tt
+
+-- ---- the lines of a slot
+
+line : LiveSlot → ℕ → List ℕ
+line s k = line_text (slot_number s.second) s.generation s.kept.boot s.kept.term s.kept.vote s.kept.image k
+
+numbers : Counts → List ℕ
+numbers c = numbers_text (codes "tree") c.nodes c.sessions ++ numbers_text (codes "replay") c.all_nodes c.all_sessions
+
+pub lines_told : (s : LiveSlot) (x : Store) (k : ℕ) (n : Counts) (a b c : List ℕ) → x ≡ store_of s.kept.image s.kept.rest.items → k ≡ last x → n ≡ counts_of x.state (latest x)
+    → a ≡ [] → b ≡ a ++ line_text (slot_number s.second) s.generation s.kept.boot s.kept.term s.kept.vote s.kept.image k
+    → c ≡ b ++ (numbers_text (codes "tree") n.nodes n.sessions ++ numbers_text (codes "replay") n.all_nodes n.all_sessions) → c ≡ live_text s
+unfolding slot_lines line numbers
+lines_told s x k n a b c store at counts none first rest =
+    let k_is : k ≡ last (store_of s.kept.image s.kept.rest.items) = at ∙ ap last store in
+    let n_is : n ≡ counts_of (store_of s.kept.image s.kept.rest.items).state (latest (store_of s.kept.image s.kept.rest.items)) = counts ∙ ap (λ (y : Store). counts_of y.state (latest y)) store in
+    rest ∙ ap (λ (z : List ℕ). z ++ numbers n) (first ∙ ap (λ (z : List ℕ). z ++ line s k) none) ∙ (λ i. line s (k_is i) ++ numbers (n_is i))

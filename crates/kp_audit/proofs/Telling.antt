@@ -1,9 +1,11 @@
 -- The text of what was told of a home.
-use Rattle.std.proofs.Common.{◌≡◌, ℕ, Bool, List, [], ◌++◌, Option, Some, None, Ok, Err, refl, sym, ◌∙◌, ap, subst}
+use Rattle.std.proofs.Common.{◌≡◌, ℕ, Bool, List, ◌++◌, Option, Some, None, Result, Ok, Err, refl, sym, ◌∙◌, ap, subst, append_assoc}
+use Rattle.kp_model.specs.LogEntry.{LogEntry}
 use Rattle.kp_model.specs.Store.{Store, last, latest}
 use Rattle.kp_plain.specs.declared.store.Counts.{Counts}
 use Rattle.kp_plain.specs.Counted.{counts_of}
 use Rattle.kp_journal.specs.Heads.{generation}
+use Rattle.kp_snapshot.specs.Snapshots.{Snapshot}
 use Rattle.kp_homes.specs.declared.fail.HomeFail.{HomeFail}
 use Rattle.kp_homes.specs.declared.fail.HomeFail.TheVariants as home_fail
 use Rattle.kp_homes.specs.declared.inspecting.LiveSlot.{LiveSlot}
@@ -12,8 +14,10 @@ use Rattle.kp_homes.specs.Opening.{Fails, found}
 use Rattle.kp_homes.specs.Inspects.{Inspects, IsLiveSlot, journal_in}
 use Rattle.kp_homes.proofs.Looking.{blank_finds}
 use Rattle.kp_homes.proofs.Refusals.{ok_err}
-use Rattle.kp_audit.specs.Texts.{store_of, numbers_text, line_text, slot_lines, found_text, live_text, told_text}
+use Rattle.kp_audit.specs.Texts.{store_counts, store_of, numbers_text, line_text, slot_lines, found_text, live_text, told_text}
 use Rattle.kp_audit.specs.declared.fail.AuditFail.{AuditFail}
+use Rattle.kp_audit.specs.declared.fail.AuditFail.TheVariants as audit_fail
+use Rattle.std.specs.Prelude.{OnOk, IsErrOf}
 use Rattle.kp_audit.specs.Audits.{Audits, audited, audited_by, fail_of, texted}
 use lib.Chars.{codes}
 
@@ -47,6 +51,11 @@ refuses node b old new e r is fails = subst (λ (f : AuditFail). Audits (Err f) 
     by_fail (home_fail.Full slot len) fails = absurd fails
     by_fail home_fail.NoMemory fails = tt
 
+-- what was told of the home is printed, or memory ran out
+pub found_audits : (node : ℕ) (b : Bytes4) (o : Option LiveSlot) (r : Result (Unit {0}) AuditFail) (old new : List ℕ) → Inspects node b (Ok o) → OnOk r (new ≡ old ++ told_text o) → ((f : AuditFail) → IsErrOf r f → f ≡ audit_fail.NoMemory) → Audits r old new (audited node b)
+found_audits node b o (Ok u) old new is printed only = (told_text o, told node b o is, printed)
+found_audits node b o (Err f) old new is printed only = subst (λ (e : AuditFail). Audits (Err e) old new (audited node b)) (sym (only f refl)) tt
+
 -- ---- the lines of a slot
 
 line : LiveSlot → ℕ → List ℕ
@@ -55,11 +64,16 @@ line s k = line_text (slot_number s.second) s.generation s.kept.boot s.kept.term
 numbers : Counts → List ℕ
 numbers c = numbers_text (codes "tree") c.nodes c.sessions ++ numbers_text (codes "replay") c.all_nodes c.all_sessions
 
-pub lines_told : (s : LiveSlot) (x : Store) (k : ℕ) (n : Counts) (a b c : List ℕ) → x ≡ store_of s.kept.image s.kept.rest.items → k ≡ last x → n ≡ counts_of x.state (latest x)
-    → a ≡ [] → b ≡ a ++ line_text (slot_number s.second) s.generation s.kept.boot s.kept.term s.kept.vote s.kept.image k
-    → c ≡ b ++ (numbers_text (codes "tree") n.nodes n.sessions ++ numbers_text (codes "replay") n.all_nodes n.all_sessions) → c ≡ live_text s
+pub lines_told : (s : LiveSlot) (k : ℕ) (n : Counts) (a b c : List ℕ) → k ≡ last (store_of s.kept.image s.kept.rest.items) → n ≡ store_counts (store_of s.kept.image s.kept.rest.items)
+    → b ≡ a ++ line_text (slot_number s.second) s.generation s.kept.boot s.kept.term s.kept.vote s.kept.image k
+    → c ≡ b ++ (numbers_text (codes "tree") n.nodes n.sessions ++ numbers_text (codes "replay") n.all_nodes n.all_sessions) → c ≡ a ++ live_text s
 unfolding slot_lines line numbers
-lines_told s x k n a b c store at counts none first rest =
-    let k_is : k ≡ last (store_of s.kept.image s.kept.rest.items) = at ∙ ap last store in
-    let n_is : n ≡ counts_of (store_of s.kept.image s.kept.rest.items).state (latest (store_of s.kept.image s.kept.rest.items)) = counts ∙ ap (λ (y : Store). counts_of y.state (latest y)) store in
-    rest ∙ ap (λ (z : List ℕ). z ++ numbers n) (first ∙ ap (λ (z : List ℕ). z ++ line s k) none) ∙ (λ i. line s (k_is i) ++ numbers (n_is i))
+lines_told s k n a b c at counts first rest =
+    rest ∙ ap (λ (z : List ℕ). z ++ numbers n) first ∙ append_assoc a (line s k) (numbers n) ∙ (λ i. a ++ (line s (at i) ++ numbers (counts i)))
+
+-- what a store that was filled counts
+pub store_last : (x : Store) (k : ℕ) (i : Option Snapshot) (es fs : List LogEntry) → x ≡ store_of i fs → fs ≡ es → k ≡ last x → k ≡ last (store_of i es)
+store_last x k i es fs is same at = at ∙ ap last (is ∙ ap (store_of i) same)
+
+pub store_counted : (x : Store) (n : Counts) (i : Option Snapshot) (es fs : List LogEntry) → x ≡ store_of i fs → fs ≡ es → n ≡ counts_of x.state (latest x) → n ≡ store_counts (store_of i es)
+store_counted x n i es fs is same counts = counts ∙ ap store_counts (is ∙ ap (store_of i) same)

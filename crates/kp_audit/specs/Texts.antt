@@ -6,6 +6,8 @@ use Rattle.kp_model.specs.LogEntry.{LogEntry}
 use Rattle.kp_model.specs.State as state
 use Rattle.kp_model.specs.State.{State}
 use Rattle.kp_model.specs.Store.{Store, last, latest}
+use Rattle.kp_plain.specs.declared.store.Counts.{Counts}
+use Rattle.kp_plain.specs.Counted.{counts_of}
 use Rattle.kp_snapshot.specs.Snapshots.{Snapshot}
 use Rattle.kp_homes.specs.declared.inspecting.LiveSlot.{LiveSlot}
 use Rattle.kp_homes.specs.Opening.{Found, base_of}
@@ -22,6 +24,10 @@ base_state (Some s) = s.state
 -- the same with these entries behind it, which are not applied
 abbrev pub store_of : Option Snapshot → List LogEntry → Store
 store_of image es = record { state = base_state image; unapplied = es }
+
+-- how many nodes and sessions its committed state has, and its uncommitted one
+abbrev pub store_counts : Store → Counts
+store_counts x = counts_of x.state (latest x)
 
 -- the store with these entries more
 abbrev pub with_all : Store → List LogEntry → Store

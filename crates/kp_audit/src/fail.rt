@@ -1,9 +1,7 @@
 ghost use Rattle.std.specs.Prelude.{◌≡◌};
 ghost use Rattle.kp_audit.specs.Audits.{fail_of};
-ghost use Rattle.kp_audit.specs.declared.fail.AuditFail.TheVariants as audit_fail;
 
 use kp_homes::HomeFail;
-use kp_model::NoMemory;
 
 /// Why there is no text of a home. The slots 0 and 1 are the journals, 2 and 3 the images.
 #[derive(Clone, Copy)]
@@ -14,14 +12,6 @@ pub enum AuditFail {
     Damaged { slot: u64, at: u64 },
     /// Memory ran out.
     NoMemory,
-}
-
-impl From<NoMemory> for AuditFail {
-    ghost from_gives = { λ _ e. e ≡ audit_fail.NoMemory };
-
-    fn from(_refused: NoMemory) -> AuditFail {
-        AuditFail::NoMemory
-    }
 }
 
 // The refusal of a home as one of its audit. `Full` comes of no call that only reads.

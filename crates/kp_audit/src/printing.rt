@@ -2,9 +2,10 @@
 //! their text.
 
 ghost use Rattle.std.specs.Prelude.{◌≡◌, ◌++◌, IfOk, IfSome, OnOk, OnErr, codes};
+ghost use Rattle.kp_model.specs.Store.{last as last_of};
 ghost use Rattle.kp_homes.specs.Opening.{IsWithin, base_of};
 ghost use Rattle.kp_homes.specs.Stands.{slot_number};
-ghost use Rattle.kp_audit.specs.Texts.{slot_text, vote_text, base_text, numbers_text, live_text as live_bytes, told_text};
+ghost use Rattle.kp_audit.specs.Texts.{slot_text, vote_text, base_text, numbers_text, live_text as live_bytes, store_of, store_counts, told_text};
 
 use crate::replaying::replayed;
 use kp_homes::LiveSlot;
@@ -91,19 +92,45 @@ fn print_counts(counts: Counts, out: &mut Vec<u8>) -> Result<(), NoMemory>
     print_numbers("replay", counts.all_nodes, counts.all_sessions, out)
 }
 
-// The three lines of a live slot.
-fn live_text(alloc: Global, slot: &LiveSlot) -> Result<Vec<u8>, NoMemory>
+// The index of the last entry of a live slot, and how many nodes and sessions its image and its entries leave.
+fn counted(alloc: Global, slot: &LiveSlot) -> Result<(u64, Counts), NoMemory>
     requires room { IsWithin slot.now.kept.image slot.now.kept.rest.items }
-    ensures { IfOk result (λ v. v.items ≡ live_bytes slot.now) }
+    ensures last { IfOk result (λ x. x.0 ≡ last_of (store_of slot.now.kept.image slot.now.kept.rest.items)) }
+    ensures counts { IfOk result (λ x. x.1 ≡ store_counts (store_of slot.now.kept.image slot.now.kept.rest.items)) }
 {
     let store = replayed(alloc, &slot.kept.image, slot.kept.rest.as_slice())?;
     let last = store.last();
     let counts = store.counts();
     drop(store);
+    match counts {
+        Ok(counts) => Ok((last, counts)),
+        Err(none) => Err(none),
+    }
+}
+
+// The three lines of a live slot.
+fn print_lines(slot: &LiveSlot, out: &mut Vec<u8>) -> Result<(), NoMemory>
+    requires room { IsWithin slot.now.kept.image slot.now.kept.rest.items }
+    ensures { OnOk result (out.new.items ≡ out.old.items ++ live_bytes slot.now) }
+{
+    let (last, counts) = counted(*out.allocator(), slot)?;
+    print_line(slot, last, out)?;
+    print_counts(counts, out)
+}
+
+// The same by themselves.
+fn live_text(alloc: Global, slot: &LiveSlot) -> Result<Vec<u8>, NoMemory>
+    requires room { IsWithin slot.now.kept.image slot.now.kept.rest.items }
+    ensures { IfOk result (λ v. v.items ≡ live_bytes slot.now) }
+{
     let mut text = Vec::new(alloc);
-    print_line(slot, last, &mut text)?;
-    print_counts(counts?, &mut text)?;
-    Ok(text)
+    match print_lines(slot, &mut text) {
+        Ok(()) => Ok(text),
+        Err(none) => {
+            drop(text);
+            Err(none)
+        }
+    }
 }
 
 /// Appends the text of a home whose live slot this is, or of a blank one.

@@ -18,7 +18,7 @@ use Rattle.kp_audit.specs.Texts.{store_counts, store_of, numbers_text, line_text
 use Rattle.kp_audit.specs.declared.fail.AuditFail.{AuditFail}
 use Rattle.kp_audit.specs.declared.fail.AuditFail.TheVariants as audit_fail
 use Rattle.std.specs.Prelude.{OnOk, IsErrOf}
-use Rattle.kp_audit.specs.Audits.{Audits, audited, audited_by, fail_of, texted}
+use Rattle.kp_audit.specs.Audits.{Audits, IsDoneOrNoMemory, audited, audited_by, fail_of, texted}
 use lib.Chars.{codes}
 
 live_told : (node : ℕ) (b : Bytes4) (s : LiveSlot) (is : IsLiveSlot node b s) → found_text (slot_number s.second) (generation (journal_in s.second b)) is.finds ≡ live_text s
@@ -55,6 +55,22 @@ refuses node b old new e r is fails = subst (λ (f : AuditFail). Audits (Err f) 
 pub found_audits : (node : ℕ) (b : Bytes4) (o : Option LiveSlot) (r : Result (Unit {0}) AuditFail) (old new : List ℕ) → Inspects node b (Ok o) → OnOk r (new ≡ old ++ told_text o) → ((f : AuditFail) → IsErrOf r f → f ≡ audit_fail.NoMemory) → Audits r old new (audited node b)
 found_audits node b o (Ok u) old new is printed only = (told_text o, told node b o is, printed)
 found_audits node b o (Err f) old new is printed only = subst (λ (e : AuditFail). Audits (Err e) old new (audited node b)) (sym (only f refl)) tt
+
+-- ---- where nothing stands against a text
+
+pub complete_found : (r : Result (Unit {0}) AuditFail) → ((f : AuditFail) → IsErrOf r f → f ≡ audit_fail.NoMemory) → IsDoneOrNoMemory r
+complete_found (Ok u) only = tt
+complete_found (Err f) only = subst (λ (e : AuditFail). IsDoneOrNoMemory (Err e)) (sym (only f refl)) tt
+
+pub complete_refused : {P : Type 0} (node : ℕ) (b : Bytes4) (text : List ℕ) (e : HomeFail) (r : AuditFail) → r ≡ fail_of e → Inspects node b (Err e) → audited node b ≡ Ok text → (◌≡◌ {A = Result (Option LiveSlot) HomeFail} (Err e) (Err home_fail.DiskFault) → P) → (P → ⊥)
+    → IsDoneOrNoMemory (Err r)
+complete_refused {P} node b text e r same fails is fault quiet = subst (λ (f : AuditFail). IsDoneOrNoMemory (Err f)) (sym same) (by_fail e fails fault)
+  where
+    by_fail : (e : HomeFail) → Fails e (found node b) → (◌≡◌ {A = Result (Option LiveSlot) HomeFail} (Err e) (Err home_fail.DiskFault) → P) → IsDoneOrNoMemory (Err (fail_of e))
+    by_fail home_fail.DiskFault fails fault = absurd (quiet (fault refl))
+    by_fail (home_fail.Damaged slot at) fails fault = ok_err _ _ _ (sym is ∙ refused node b (home_fail.Damaged slot at) fails)
+    by_fail (home_fail.Full slot len) fails fault = absurd fails
+    by_fail home_fail.NoMemory fails fault = tt
 
 -- ---- the lines of a slot
 

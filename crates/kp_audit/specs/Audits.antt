@@ -30,6 +30,13 @@ Audits (Err audit_fail.DiskFault) old new is = Unit {0}
 Audits (Err (audit_fail.Damaged slot at)) old new is = is ≡ Err (home_fail.Damaged slot at)
 Audits (Err audit_fail.NoMemory) old new is = Unit {0}
 
+-- all was printed, or memory ran out
+abbrev pub IsDoneOrNoMemory : Result (Unit {0}) AuditFail → Type 0
+IsDoneOrNoMemory (Ok u) = Unit {0}
+IsDoneOrNoMemory (Err audit_fail.DiskFault) = ⊥
+IsDoneOrNoMemory (Err (audit_fail.Damaged slot at)) = ⊥
+IsDoneOrNoMemory (Err audit_fail.NoMemory) = Unit {0}
+
 -- the refusal of a home as one of its audit
 abbrev pub fail_of : HomeFail → AuditFail
 fail_of home_fail.DiskFault = audit_fail.DiskFault

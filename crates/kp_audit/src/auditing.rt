@@ -1,6 +1,6 @@
 //! The audit of a home.
 
-ghost use Rattle.std.specs.Prelude.{◌≡◌, ◌≤◌, ◌++◌, IfSome, OnErr, OnOk, IsErrOf};
+ghost use Rattle.std.specs.Prelude.{ℕ, List, Ok, ◌≡◌, ◌≤◌, ◌++◌, IfSome, OnErr, OnOk, IsErrOf};
 ghost use Rattle.kp_io.specs.Faults.{Rose};
 ghost use Rattle.kp_io.specs.Homes.{home_faults};
 ghost use Rattle.kp_homes.specs.Stands.{Bytes4};
@@ -9,7 +9,7 @@ ghost use Rattle.kp_homes.specs.Reading.{IsUntouched};
 ghost use Rattle.kp_audit.specs.declared.fail.AuditFail.{AuditFail};
 ghost use Rattle.kp_audit.specs.declared.fail.AuditFail.TheVariants as audit_fail;
 ghost use Rattle.kp_audit.specs.Texts.{told_text};
-ghost use Rattle.kp_audit.specs.Audits.{Audits, audited};
+ghost use Rattle.kp_audit.specs.Audits.{Audits, IsDoneOrNoMemory, audited};
 
 use crate::fail::{AuditFail, fail_of};
 use crate::printing::print_home;
@@ -41,6 +41,7 @@ fn print_found(live: Option<LiveSlot>, out: &mut Vec<u8>) -> Result<(), AuditFai
 /// faults rose.
 pub fn audit<H: Disk>(home: &mut Four<H>, node: u8, out: &mut Vec<u8>) -> Result<(), AuditFail>
     ensures text { (b : Bytes4) → Holds H.held home.old b → Audits result out.old.items out.new.items (audited node b) }
+    ensures complete { (b : Bytes4) (t : List ℕ) → Holds H.held home.old b → audited node b ≡ Ok t → ¬ (Rose (home_faults H.faults home.old) (home_faults H.faults home.new)) → IsDoneOrNoMemory result }
     ensures err { OnErr result (out.new.items ≡ out.old.items) }
     ensures fault { IsErrOf result audit_fail.DiskFault → Rose (home_faults H.faults home.old) (home_faults H.faults home.new) }
     ensures quiet { OnOk result (home_faults H.faults home.new ≡ home_faults H.faults home.old) }

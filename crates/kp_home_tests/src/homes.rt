@@ -13,15 +13,16 @@ use std::fs::{File, Files};
 use std::io::Print;
 use std::test::Fail;
 
-// A home of node 1 with term 1, vote 1, boot 1 and one entry.
-const ONE_ENTRY: &[u8] =
+/// A home of node 1 with term 1, vote 1, boot 1 and one entry.
+pub(crate) const ONE_ENTRY: &[u8] =
     b"\x01KPJ1\0\0\0\0\0\0\0\x01\x01\0\0\0\0\0\0\0\0\x01\0\0\0\x25\x01\0\0\0\0\0\0\0\x01\x01\x02\0\0\0\0\0\0\0\x01\x03\0\0\0\0\0\0\0\x01\0\0\0\0\0\0\0\0\0\0";
 
-// A home of node 1 whose only record has no known tag.
-const UNKNOWN_TAG: &[u8] = b"\x01KPJ1\0\0\0\0\0\0\0\x01\x01\0\0\0\0\0\0\0\0\x01\0\0\0\x01\x63\0";
+/// A home of node 1 whose only record has no known tag.
+pub(crate) const UNKNOWN_TAG: &[u8] =
+    b"\x01KPJ1\0\0\0\0\0\0\0\x01\x01\0\0\0\0\0\0\0\0\x01\0\0\0\x01\x63\0";
 
-// An image of the state of a node that has only the root, as of index 2 and term 1.
-const ROOT_IMAGE: &[u8] =
+/// An image of the state of a node that has only the root, as of index 2 and term 1.
+pub(crate) const ROOT_IMAGE: &[u8] =
     b"KPI1\0\0\0\0\0\0\0\x02\0\0\0\0\0\0\0\x01\0\0\0\0\0\0\0\x01\0\0\0\0\0\0\0\x01\0\0\0\x01/\0\0\0\0\0\0\0\x01\0\0\0\x1f\0\0\0\x05world\0\0\0\x06anyone\0\0\0\0\0\0\0\0\0\0\0\0\0\0\0\0\0\0\0\0\0\0\0\0\0\0\0\0\0\0\0\0\0\0\0\0\0\0\0\0\0\0\0\0\0\0\0\0\0\0\0\0\0\0\0\0\0\0\0\0\0\0\0\0";
 
 // Term, vote, boot, the index of the image, and the number of entries.
@@ -81,8 +82,8 @@ fn crashed(
     })
 }
 
-// A home whose first journal and image hold these bytes, and which stops behind a moment.
-fn home_of(
+/// A home whose first journal and image hold these bytes, and which stops behind a moment.
+pub(crate) fn home_of(
     alloc: Global,
     journal: &[u8],
     image: &[u8],
@@ -264,8 +265,12 @@ fn a_home_is_kept_in_files(rt: HostRuntime) -> Result<(), Fail> {
     Ok(())
 }
 
-// A home with one entry whose disk of this number fails in this call.
-fn failing_home(alloc: Global, which: u64, call: u64) -> Result<Four<FaultyDisk>, AllocError> {
+/// A home with one entry whose disk of this number fails in this call.
+pub(crate) fn failing_home(
+    alloc: Global,
+    which: u64,
+    call: u64,
+) -> Result<Four<FaultyDisk>, AllocError> {
     Ok(Four {
         j0: failing_disk(alloc, ONE_ENTRY, if which == 0 { call } else { 0 })?,
         j1: failing_disk(alloc, &[], if which == 1 { call } else { 0 })?,

@@ -5,9 +5,11 @@ pub mod Ready
 pub mod Making
 pub mod Refusals
 pub mod Replaying
+pub mod Within
 pub mod Lifting
 pub mod Settling
 pub mod Looking
 pub mod Earlier
 pub mod Beginning
 pub mod Carrying
+pub mod Telling

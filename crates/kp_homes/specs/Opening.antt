@@ -2,6 +2,7 @@
 use Rattle.std.specs.Prelude.{◌≡◌, ℕ, ◌+◌, ◌^◌, ◌≤◌, ◌-◌, min, nat_lt, Bool, true, false, cond, ◌&&◌, List, [], ◌∷◌, length, take, drop, get_or, Option, Some, None, Result, Ok, Err}
 use Rattle.kp_io.specs.Crash.{Past, MayLeave, AreUpTo}
 use Rattle.kp_io.specs.declared.home.Four.{Four}
+use Rattle.kp_model.specs.LogEntry.{LogEntry}
 use Rattle.kp_jute.specs.declared.fault.JuteFail.{JuteFail}
 use Rattle.kp_jute.specs.declared.fault.JuteFail.TheVariants as jute
 use Rattle.kp_jute.specs.Form.{whole}
@@ -84,6 +85,10 @@ pub record Found : Type 0 where
 abbrev pub base_of : Option Snapshot → Log
 base_of None = based_at 0 0
 base_of (Some s) = based_at s.state.applied s.term
+
+-- the index of an image, 0 without one, and the number of the entries behind it are at most 2 ^ 62 together
+abbrev pub IsWithin : Option Snapshot → List LogEntry → Type 0
+IsWithin image es = (base_of image).base + length es ≤ 2 ^ 62
 
 -- a server that was never started
 abbrev pub blank_start : Option Snapshot → Start

@@ -4,6 +4,7 @@
 mod blank;
 mod fail;
 mod home;
+mod inspecting;
 mod kept;
 mod open;
 mod promises;
@@ -14,5 +15,6 @@ mod syncing;
 
 pub use fail::HomeFail;
 pub use home::Home;
+pub use inspecting::{LiveSlot, inspect};
 pub use kept::Kept0;
 pub use promises::{a_batch_is_replayed, a_slot_is_replayed, what_stands_is_found};

@@ -7,7 +7,7 @@ ghost use Rattle.kp_journal.specs.Heads.{open_generation};
 ghost use Rattle.kp_journal.specs.Journals.{StandsFor, journal_of};
 ghost use Rattle.kp_homes.specs.declared.fail.HomeFail.TheVariants as home_fail;
 ghost use Rattle.kp_homes.specs.Stands.{Bytes4, slot_of, choice, IsReady};
-ghost use Rattle.kp_homes.specs.Opening.{chosen, found, found_in, behind_image, image_in, image_on, Says, Finds, Holds};
+ghost use Rattle.kp_homes.specs.Opening.{IsWithin, chosen, found, found_in, behind_image, image_in, image_on, Says, Finds, Holds};
 ghost use Rattle.kp_homes.specs.Reading.{found_of, seen, HasJournal, IsLive, IsUntouched, ReadsJournal, some_live};
 
 use crate::fail::{HomeFail, fail_in};
@@ -123,6 +123,7 @@ fn replayed(
 ) -> Result<Live, HomeFail>
     ensures says { Says found_of result (behind_image slot journal.run (Ok image)) }
     ensures journal { IfOk result (λ l. l.journal ≡ journal) }
+    ensures room { IfOk result (λ l. IsWithin l.image l.replay.held.log.entries) }
     ensures second { IfOk result (λ l. l.second ≡ second) }
     ensures no_fault { IsErrOf result home_fail.DiskFault → ⊥ }
     ensures no_full { (s n : ℕ) → IsErrOf result (home_fail.Full s n) → ⊥ }
@@ -183,6 +184,7 @@ fn read_slot<D: Disk>(
     ensures stand { IfSome (D.held journal.old) (λ xs. IfSome (D.held image.old) (λ ys. IfOk result (λ l. HasJournal (slot_of slot (journal_of node xs) ys) l.journal))) }
     ensures ready { IfOk result (λ l. IfSome (D.held journal.new) (StandsFor l.journal)) }
     ensures node { IfOk result (λ l. l.journal.head.node ≡ node) }
+    ensures room { IfOk result (λ l. IsWithin l.image l.replay.held.log.entries) }
     ensures second { IfOk result (λ l. l.second ≡ second) }
     ensures fault { IsErrOf result home_fail.DiskFault → Rose (D.faults journal.old + D.faults image.old) (D.faults journal.new + D.faults image.new) }
     ensures quiet { OnOk result (D.faults journal.new + D.faults image.new ≡ D.faults journal.old + D.faults image.old) }
@@ -241,6 +243,7 @@ pub(crate) fn look<H: Disk>(
     ensures live { (b : Bytes4) → Holds H.held disks.old b → IfOk result (λ l. IsLive node b l) }
     ensures ready { IfOk result (λ l. IfSome l (λ v. IsReady v.second (H.held disks.new.j0) (H.held disks.new.j1) v.journal)) }
     ensures node { IfOk result (λ l. IfSome l (λ v. v.journal.head.node ≡ node)) }
+    ensures room { IfOk result (λ l. IfSome l (λ v. IsWithin v.image v.replay.held.log.entries)) }
     ensures fault { IsErrOf result home_fail.DiskFault → Rose (home_faults H.faults disks.old) (home_faults H.faults disks.new) }
     ensures quiet { OnOk result (home_faults H.faults disks.new ≡ home_faults H.faults disks.old) }
     ensures no_full { (s n : ℕ) → IsErrOf result (home_fail.Full s n) → ⊥ }
@@ -265,6 +268,7 @@ fn read_live<H: Disk>(
     ensures live { (b : Bytes4) → Holds H.held disks.old b → choice b.j0 b.j1 ≡ Some second → IfOk result (λ l. IsLive node b l) }
     ensures ready { IfOk result (λ l. IfSome l (λ v. IsReady v.second (H.held disks.new.j0) (H.held disks.new.j1) v.journal)) }
     ensures node { IfOk result (λ l. IfSome l (λ v. v.journal.head.node ≡ node)) }
+    ensures room { IfOk result (λ l. IfSome l (λ v. IsWithin v.image v.replay.held.log.entries)) }
     ensures fault { IsErrOf result home_fail.DiskFault → Rose (home_faults H.faults disks.old) (home_faults H.faults disks.new) }
     ensures quiet { OnOk result (home_faults H.faults disks.new ≡ home_faults H.faults disks.old) }
     ensures no_full { (s n : ℕ) → IsErrOf result (home_fail.Full s n) → ⊥ }
@@ -284,6 +288,7 @@ fn read_first<H: Disk>(alloc: Global, disks: &mut Four<H>, node: u8) -> Result<L
     ensures live { (b : Bytes4) → Holds H.held disks.old b → choice b.j0 b.j1 ≡ Some false → IfOk result (λ l. IsLive node b (Some l)) }
     ensures ready { IfOk result (λ v. IsReady v.second (H.held disks.new.j0) (H.held disks.new.j1) v.journal) }
     ensures node { IfOk result (λ l. l.journal.head.node ≡ node) }
+    ensures room { IfOk result (λ l. IsWithin l.image l.replay.held.log.entries) }
     ensures fault { IsErrOf result home_fail.DiskFault → Rose (home_faults H.faults disks.old) (home_faults H.faults disks.new) }
     ensures quiet { OnOk result (home_faults H.faults disks.new ≡ home_faults H.faults disks.old) }
     ensures no_full { (s n : ℕ) → IsErrOf result (home_fail.Full s n) → ⊥ }
@@ -307,6 +312,7 @@ fn read_second<H: Disk>(alloc: Global, disks: &mut Four<H>, node: u8) -> Result<
     ensures live { (b : Bytes4) → Holds H.held disks.old b → choice b.j0 b.j1 ≡ Some true → IfOk result (λ l. IsLive node b (Some l)) }
     ensures ready { IfOk result (λ v. IsReady v.second (H.held disks.new.j0) (H.held disks.new.j1) v.journal) }
     ensures node { IfOk result (λ l. l.journal.head.node ≡ node) }
+    ensures room { IfOk result (λ l. IsWithin l.image l.replay.held.log.entries) }
     ensures fault { IsErrOf result home_fail.DiskFault → Rose (home_faults H.faults disks.old) (home_faults H.faults disks.new) }
     ensures quiet { OnOk result (home_faults H.faults disks.new ≡ home_faults H.faults disks.old) }
     ensures no_full { (s n : ℕ) → IsErrOf result (home_fail.Full s n) → ⊥ }

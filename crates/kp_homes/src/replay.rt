@@ -1,6 +1,6 @@
 //! Records that are replayed behind a base.
 
-ghost use Rattle.std.specs.Prelude.{ℕ, List, ◌∷◌, ◌≡◌, ◌+◌, true, drop, get_or, slice_get, OnOk};
+ghost use Rattle.std.specs.Prelude.{ℕ, List, ◌∷◌, ◌≡◌, ◌+◌, ◌≤◌, ◌^◌, true, drop, get_or, slice_get, OnOk};
 ghost use Rattle.kp_entry.specs.declared.record.Record.{Record};
 ghost use Rattle.kp_entry.specs.Held.{replay_one};
 ghost use Rattle.kp_homes.specs.Opening.{boot_by, is_fit, refused_at, blank_start, restarted, Says, Goes};
@@ -36,7 +36,8 @@ impl Model for Replay {
 impl Replay {
     /// No records behind the image, or behind none. Takes no memory.
     pub(crate) fn behind(alloc: Global, image: &Option<Image>) -> Replay
-        ensures { result ≡ blank_start image.now }
+        ensures value { result ≡ blank_start image.now }
+        ensures limit { (Rattle.kp_homes.specs.Opening.base_of image.now).base ≤ 2 ^ 62 }
     {
         let (base, base_term) = base_of(image);
         Replay {
@@ -177,11 +178,15 @@ impl Replay {
 
 // The index and the term of the image's base.
 fn base_of(image: &Option<Image>) -> (u64, u64)
-    ensures { (result.0 ≡ (Rattle.kp_homes.specs.Opening.base_of image.now).base) × (result.1 ≡ (Rattle.kp_homes.specs.Opening.base_of image.now).base_term) }
+    ensures value { (result.0 ≡ (Rattle.kp_homes.specs.Opening.base_of image.now).base) × (result.1 ≡ (Rattle.kp_homes.specs.Opening.base_of image.now).base_term) }
+    ensures limit { result.0 ≤ 2 ^ 62 }
 {
     match image {
         None => (0, 0),
-        Some(image) => (image.index(), image.term()),
+        Some(image) => {
+            image.stays_sound();
+            (image.index(), image.term())
+        }
     }
 }
 

@@ -1,6 +1,7 @@
 use Rattle.std.proofs.Common.{◌≡◌, ◌∙◌, Some, Bool, ap, sym}
 use Rattle.kp_io.specs.Homes.{home_faults}
 use Rattle.kp_homes.specs.Stands.{IsReady}
+use Rattle.kp_homes.specs.Opening.{IsWithin}
 use Rattle.kp_homes.specs.Reading.{some_live}
 use Rattle.kp_homes.proofs.Looking.{some_finds, some_is_live, some_holds, some_err, finds_as, live_as, holds_as, quiet_as}
 use Rattle.kp_homes.proofs.reading.read_live.Goals as goal
@@ -46,3 +47,9 @@ returns-then-second-clause-quiet g c = quiet_as c.some_live.result c.read_second
 
 pub returns-else-second-clause-quiet : goal.returns-else-second-clause-quiet
 returns-else-second-clause-quiet g c = quiet_as c.some_live-else-second.result c.read_first.result (home_faults g.H.Disk.faults c.read_first.new.disks ≡ home_faults g.H.Disk.faults c.args.disks.now) c.some_live-else-second.ensures c.read_first.ensures.quiet
+
+pub returns-then-second-clause-room : goal.returns-then-second-clause-room
+returns-then-second-clause-room g c = holds_as c.some_live.result (some_live c.read_second.result) (λ v. IsWithin v.image v.replay.held.log.entries) c.some_live.ensures (some_holds (λ v. IsWithin v.image v.replay.held.log.entries) c.read_second.result c.read_second.ensures.room)
+
+pub returns-else-second-clause-room : goal.returns-else-second-clause-room
+returns-else-second-clause-room g c = holds_as c.some_live-else-second.result (some_live c.read_first.result) (λ v. IsWithin v.image v.replay.held.log.entries) c.some_live-else-second.ensures (some_holds (λ v. IsWithin v.image v.replay.held.log.entries) c.read_first.result c.read_first.ensures.room)

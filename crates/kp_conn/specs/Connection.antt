@@ -79,6 +79,10 @@ serving session epoch c = record c { phase = phase.Live session epoch 1 }
 abbrev pub opened : ConnectReply → ℕ → Connection → Connection
 opened r epoch c = if r.session == 0 then closed false (put (connect_packet r) c) else serving r.session epoch (put (connect_packet r) c)
 
+-- it is new, with these bytes kept, the first of them at this place
+abbrev pub begun_again : List ℕ × ℕ → Connection → Connection
+begun_again b c = record c { phase = phase.Fresh; kept = b.0; place = b.1 }
+
 -- session, epoch and next number of a live connection
 abbrev pub live_as : Phase → Option (ℕ × (ℕ × ℕ))
 live_as (phase.Live s e n) = Some (s, (e, n))

@@ -2,13 +2,14 @@
 
 ghost use Rattle.std.specs.Prelude.{◌≡◌, ◌≤◌, ◌<◌, ◌+◌, [], ◌∷◌, ◌++◌, length, take, drop, nat_lt, slice_get, option_copied, option_map, is_some, IfOk, OnOk, OnErr};
 ghost use Rattle.kp_model.specs.Limits.{last_number};
-ghost use Rattle.kp_conn.specs.Connection.{blank, put, taken_back, closed, joined, answered, answered_kept, settled, serving, opened, live_as, drained, out_piece};
+ghost use Rattle.kp_conn.specs.Connection.{blank, put, taken_back, closed, joined, answered, answered_kept, settled, serving, opened, begun_again, live_as, drained, out_piece};
 ghost use Rattle.kp_conn.specs.Fed.{fed, fed_first, with_piece, nothing, IsLive, LiesIn};
 ghost use Rattle.kp_conn.specs.Packets.{event_packet};
 ghost use Rattle.kp_conn.specs.Queue.{SeqFits, awaited};
 ghost use Rattle.kp_conn.specs.declared.phase.Phase.TheVariants as phases;
 ghost use Rattle.kp_conn.specs.declared.first.First.TheVariants as firsts;
 
+use crate::beginning::Beginning;
 use crate::fed::{Fed, FedEnd, OutPiece, read_connect, read_end, read_requests};
 use crate::feeding::take_piece;
 use crate::first::{First, begin_with};
@@ -212,6 +213,52 @@ impl Conn {
             self.serve(reply.session, epoch);
         }
         Ok(())
+    }
+
+    /// Answers the connect request, and reads what was kept meanwhile: `connect` and then `feed` of no bytes, as one call,
+    /// since a live connection of which nothing was read can't go back. Without memory it waits for its answer as before.
+    pub fn welcome(&mut self, reply: &ConnectReply, epoch: u64) -> Result<Fed, NoMemory>
+        requires { 0 < reply.now.session }
+        ensures ok { IfOk result (λ f. fed (opened reply.now epoch self.old) [] ≡ (self.new, f)) }
+        ensures err { OnErr result (self.new ≡ self.old) }
+    {
+        let before = self.phase;
+        self.connect(reply, epoch)?;
+        match self.feed(&[]) {
+            Ok(fed) => Ok(fed),
+            Err(none) => {
+                self.turn_back(before);
+                Err(none)
+            }
+        }
+    }
+
+    // Takes the last packet back, and is in this phase again.
+    fn turn_back(&mut self, phase: Phase)
+        ensures { self.new ≡ taken_back (record self.old { phase = phase }) }
+    {
+        self.phase = phase;
+        self.unput();
+    }
+
+    /// What a new connection begins with, as a copy: `begin_again` takes a `feed` back with it.
+    pub fn beginning(&self) -> Result<Beginning, NoMemory>
+        ensures { IfOk result (λ b. b ≡ (self.now.kept, self.now.place)) }
+    {
+        Ok(Beginning {
+            kept: Vec::from_slice(self.alloc, &self.kept)?,
+            place: self.place,
+        })
+    }
+
+    /// The connection is new again, and begins with this. Takes no memory.
+    pub fn begin_again(&mut self, beginning: Beginning)
+        ensures { self.new ≡ begun_again beginning self.old }
+    {
+        let Beginning { kept, place } = beginning;
+        self.phase = Phase::Fresh;
+        self.kept = kept;
+        self.place = place;
     }
 
     /// Makes the connection live, with this session and epoch and the next number 1: what `connect` does beside putting

@@ -2,6 +2,7 @@
 //! requests that wait for their answers in their order, and holds the packets that go out.
 #![tactic(auto)]
 
+mod beginning;
 mod conn;
 mod fed;
 mod feeding;
@@ -14,6 +15,7 @@ mod phase;
 mod queue;
 mod waiting;
 
+pub use beginning::Beginning;
 pub use conn::Conn;
 pub use fed::{Fed, FedEnd, OutPiece};
 pub use packets::{write_connect_packet, write_event_packet};

@@ -140,8 +140,9 @@ impl Watches {
         Ok(fired)
     }
 
-    // Who hears of the events.
-    fn plan(&self, events: &[Event]) -> Result<Vec<Fired>, NoMemory>
+    /// Who hears of the events, if they fire now one after another, by the events' places: what `fire` answers, before a
+    /// watch is taken away. It costs the events and the watches at their paths, times a logarithm.
+    pub fn plan(&self, events: &[Event]) -> Result<Vec<Fired>, NoMemory>
         ensures { IfOk result (λ fs. shown events.now fs.items ≡ somes (fired self.now events.now).pairs) }
     {
         let mut gone = none_gone(self.allocator());
@@ -165,8 +166,8 @@ impl Watches {
         }
     }
 
-    // Takes the watches away that hear of the events.
-    fn take_all(&mut self, events: &[Event])
+    /// Takes the watches away that hear of the events: what `fire` does behind its `plan`. Takes no memory.
+    pub fn take_all(&mut self, events: &[Event])
         ensures { self.new ≡ (fired self.old events.now).left }
     {
         for event in events {

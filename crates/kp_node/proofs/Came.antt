@@ -1,12 +1,11 @@
 -- A connection that comes or goes, or takes what is ready for it, makes the step.
-use Rattle.std.proofs.Common.{◌≡◌, ℕ, ◌+◌, ◌-◌, ◌≤◌, ◌<◌, ◌^◌, Bool, true, false, cond, not, ◌&&◌, ◌||◌, List, [], ◌∷◌, length, Option, Some, None, is_some, refl, ap, sym, subst, ◌∙◌, arith}
+use Rattle.std.proofs.Common.{◌≡◌, ℕ, ◌+◌, ◌-◌, ◌<◌, ◌^◌, Bool, true, false, cond, not, ◌&&◌, ◌||◌, List, [], ◌∷◌, Option, Some, None, is_some, refl, ap, sym, subst, ◌∙◌, arith}
 use Rattle.std.specs.Prelude.{nat_eq}
-use Rattle.std.specs.List.{filter}
-use Rattle.std.specs.Ordering.{nat_cmp}
 use Rattle.std.specs.FinMap as map
-use Rattle.std.specs.FinMap.{FinMap}
-use Rattle.kp_raft.specs.Parts.{nothing}
+use Rattle.kp_raft.specs.declared.mail.Mail.{Mail}
+use Rattle.kp_event.specs.declared.event.NodeEventKind.{NodeEventKind}
 use Rattle.kp_event.specs.declared.event.NodeEventKind.TheVariants as kind
+use Rattle.kp_event.specs.declared.said.Said.{Said}
 use Rattle.kp_event.specs.declared.said.Said.TheVariants as says
 use Rattle.kp_watch.specs.declared.watch.Watch.{Watch}
 use Rattle.kp_watch.specs.Watching.{dropped}
@@ -16,19 +15,20 @@ use Rattle.kp_conn.specs.declared.fed.OutPiece as conn
 use Rattle.kp_conn.specs.Connection.{Connection, out_piece, blank, drained, is_over, is_lost}
 use Rattle.kp_step.specs.declared.seat.Seat.{Seat}
 use Rattle.kp_step.specs.Choices.{Choices}
-use Rattle.kp_step.specs.Node.{Node, Seats}
+use Rattle.kp_step.specs.Asking.{cut_of}
+use Rattle.kp_step.specs.Node.{Seats}
 use Rattle.kp_step.specs.Tables.{seated}
 use Rattle.kp_step.specs.Runs.{IsResting}
 use Rattle.std.specs.Option.{option_map}
 use Rattle.std.specs.Prelude.{if◌then◌else◌}
 use Rattle.kp_event.specs.declared.said.OutPiece.{OutPiece}
 use Rattle.kp_seats.specs.Seating.{Seating, accepted, removed, holding}
-use Rattle.kp_step.specs.Step.{piece_of, accept_turn, hangup_turn, drain_turn, standing_of, keeps_watches, swept, count_lost, is_ready, newly_ready, together, node_behind, turn, Turn, Stepped}
+use Rattle.kp_step.specs.Step.{piece_of, accept_turn, hangup_turn, drain_turn, standing_of, keeps_watches, count_lost, is_ready, newly_ready, together, turn, Turn, Stepped}
 use Rattle.kp_node.specs.Parts.{Parts, node_of}
 use Rattle.kp_node.specs.Holding.{Holds, AreKept, served_at}
-use Rattle.kp_node.specs.Steps.{images, IsStep, Steps, aside, quietly}
+use Rattle.kp_node.specs.Steps.{Steps, aside, quietly}
 use Rattle.kp_node.specs.Coming.{come, gone, emptied_seating, drained_seating, drained_watches, drained_at}
-use Rattle.kp_node.proofs.Maps.{no, filter_none, one_if, count, count_new, count_taken, count_changed, get-put, get-taken, same, same_number, all_put, all_taken, served_put, served_taken, kept_all, kept_put, kept_taken, swept_taken}
+use Rattle.kp_node.proofs.Maps.{no, filter_none, count_new, count_taken, count_changed, get-put, get-taken, same, same_number, all_put, all_taken, served_put, served_taken, kept_all, kept_put, kept_taken, swept_taken}
 
 abbrev lost : Seat → Bool
 lost s = is_lost s.connection.phase
@@ -114,23 +114,28 @@ gone_holds p k h few = record {
   counted = omega (arith, few);
 }
 
-pub gone_steps : (p : Parts) (k : ℕ) → Holds p → (ch : Choices)
-    → Steps (aside ch (node_of p) (kind.Hangup k) (hangup_turn (node_of p) k)) p (gone p k) (quietly (says.Hung (map.contains_key p.seating.seats k)) (standing_of (node_of (gone p k))))
+-- whatever is said of it, where nothing is cut
+without_steps : (p : Parts) (k : ℕ) → Holds p → (ch : Choices) (v : NodeEventKind (Mail Snapshot)) → cut_of ch.room (node_of p) v ≡ None → (said : Said)
+    → Steps (aside ch (node_of p) v (turn (record (node_of p) { seats = map.remove p.seating.seats k }) said)) p (gone p k) (quietly said (standing_of (node_of (gone p k))))
 unfolding together
-gone_steps p k h ch = record {
+without_steps p k h ch v uncut said = record {
   is = record {
     node = ap (λ ws. record (node_of (gone p k)) { watches = ws }) (sym (swept_taken conn_of keeps_watches p.seating.seats k p.watches refl h.kept));
     said = refl;
     records = refl;
     image = refl;
     mail = refl;
-    cut = refl;
+    cut = sym uncut;
     lost = sym (none_lost_gone p.seating.seats k (map.get p.seating.seats k) refl);
     standing = refl;
     ready = sym (none_ready_taken p.seating.seats k);
   };
   counted = refl;
 }
+
+pub gone_steps : (p : Parts) (k : ℕ) → Holds p → (ch : Choices)
+    → Steps (aside ch (node_of p) (kind.Hangup k) (hangup_turn (node_of p) k)) p (gone p k) (quietly (says.Hung (map.contains_key p.seating.seats k)) (standing_of (node_of (gone p k))))
+gone_steps p k h ch = without_steps p k h ch (kind.Hangup k) refl (says.Hung (map.contains_key p.seating.seats k))
 
 -- ---- one takes what is ready for it
 
@@ -195,21 +200,7 @@ module _ (p : Parts) (k : ℕ) (h : Holds p) where
   StepsBy ch s b = Steps (aside ch (node_of p) (kind.Drain k) (turn_by b s)) p (parts_by b s) (quietly (says.Out (Some (piece_of s.connection))) (standing_of (node_of (parts_by b s))))
 
   over_steps : (ch : Choices) (s : Seat) → StepsBy ch s true
-  unfolding together
-  over_steps ch s = record {
-    is = record {
-      node = ap (λ ws. record (node_of (gone p k)) { watches = ws }) (sym (swept_taken conn_of keeps_watches p.seating.seats k p.watches refl h.kept));
-      said = refl;
-      records = refl;
-      image = refl;
-      mail = refl;
-      cut = refl;
-      lost = sym (none_lost_gone p.seating.seats k (map.get p.seating.seats k) refl);
-      standing = refl;
-      ready = sym (none_ready_taken p.seating.seats k);
-    };
-    counted = refl;
-  }
+  over_steps ch s = without_steps p k h ch (kind.Drain k) refl (says.Out (Some (piece_of s.connection)))
 
   staying_steps : (ch : Choices) (s : Seat) → is_over s.connection.phase ≡ false → map.get p.seating.seats k ≡ Some s → StepsBy ch s false
   unfolding together

@@ -108,6 +108,13 @@ impl<I: Drop> Raft<I> {
         self.vars.leader
     }
 
+    /// How many members the cluster has.
+    pub fn members(&self) -> u8
+        ensures { result ≡ self.now.members }
+    {
+        self.members
+    }
+
     /// The commit index.
     pub fn commit(&self) -> u64
         ensures index { result ≡ self.now.vars.commit }

@@ -108,6 +108,13 @@ impl<I: Drop> Raft<I> {
         self.vars.leader
     }
 
+    /// Its number in its cluster.
+    pub fn node(&self) -> u8
+        ensures { result ≡ self.now.node }
+    {
+        self.node
+    }
+
     /// How many members the cluster has.
     pub fn members(&self) -> u8
         ensures { result ≡ self.now.members }

@@ -15,3 +15,5 @@ pub mod Touched
 pub mod Heard
 pub mod Deciding
 pub mod Starting
+pub mod Walked
+pub mod Risen

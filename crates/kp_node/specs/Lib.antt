@@ -13,3 +13,5 @@ pub mod Hearing
 pub mod Timing
 pub mod Starting
 pub mod Facts
+pub mod Walking
+pub mod Rising

@@ -17,12 +17,14 @@ mod laws;
 mod node;
 mod outcome;
 mod refusing;
+mod rising;
 mod said;
 mod serving;
 mod settling;
 mod start;
 mod telling;
 mod timing;
+mod walking;
 mod watched;
 
 pub use connect::{greeting, held_timeout, is_refused, opening, refusal};

@@ -15,3 +15,4 @@ pub mod Starting
 pub mod Facts
 pub mod Walking
 pub mod Rising
+pub mod Foreseen

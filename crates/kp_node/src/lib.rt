@@ -11,6 +11,7 @@ mod coming;
 mod connect;
 mod deadlines;
 mod entry;
+mod foreseen;
 mod handing;
 mod hearing;
 mod laws;

@@ -17,3 +17,5 @@ pub mod Deciding
 pub mod Starting
 pub mod Walked
 pub mod Risen
+pub mod Reacted
+pub mod Mild

@@ -5,7 +5,6 @@ use Rattle.std.specs.Prelude.{◌^◌, map, nat_eq, T, if◌then◌else◌}
 use Rattle.std.specs.FinMap.{contains_key-keys, len-entries, entries-from_sorted}
 use Rattle.std.proofs.lemmas.List.{length-map}
 use Rattle.kp_seats.specs.Walked.{Becomes, IsWalk}
-use Rattle.kp_conn.specs.declared.phase.Phase.{Phase}
 use Rattle.kp_step.specs.Tables.{mapped}
 use Rattle.kp_step.proofs.Tables.{get-mapped}
 use Rattle.kp_node.specs.Holding.{AreKept, served_by, served_at}
@@ -24,11 +23,11 @@ use Rattle.kp_watch.specs.Watching.{dropped}
 use Rattle.kp_conn.specs.Connection.{is_lost}
 use Rattle.kp_step.specs.declared.seat.Seat.{Seat}
 use Rattle.kp_step.specs.Node.{Seats}
-use Rattle.kp_step.specs.Step.{swept, count_lost, keeps_watches, is_ready, newly_ready}
-use Rattle.kp_node.specs.Walking.{phase_at, is_idle, is_given_up, left_all, dropped_all, unready_of}
+use Rattle.kp_step.specs.Step.{swept, count_lost, keeps_watches, is_ready}
+use Rattle.kp_node.specs.Walking.{phase_at, is_idle, is_given_up, left_all, dropped_all}
 use Rattle.std.specs.declared.cmp.Ordering.{Ordering}
 use Rattle.std.specs.declared.cmp.Ordering.TheVariants.{Less, Equal, Greater}
-use Rattle.std.specs.Ordering.{is_lt, is_eq, MatchOrdering}
+use Rattle.std.specs.Ordering.{is_lt, MatchOrdering}
 use Rattle.std.specs.Cmp.{ranks}
 use Rattle.std.specs.FinMap.{is_sorted}
 use Rattle.std.specs.FinMap.Entries.{below_all}

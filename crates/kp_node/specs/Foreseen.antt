@@ -5,9 +5,12 @@ use Rattle.kp_model.specs.Store.{Store}
 use Rattle.kp_entry.specs.Held.{replay}
 use Rattle.kp_entry.specs.Log.{Log, last_index, with_entries}
 use Rattle.kp_raft.specs.declared.event.RaftEvent.{RaftEvent}
+use Rattle.kp_raft.specs.Numbers.{is_peer}
 use Rattle.kp_raft.specs.Parts as raft
 use Rattle.kp_raft.specs.Parts.{is_leader}
-use Rattle.kp_raft.specs.Rules.{noop}
+use Rattle.kp_raft.specs.declared.mail.Mail.{Mail}
+use Rattle.kp_raft.specs.declared.mail.Mail.TheVariants as mail
+use Rattle.kp_raft.specs.Rules.{noop, counts}
 use Rattle.kp_raft.specs.Steps.{react, image_of}
 use Rattle.kp_raft.specs.Members.{Member, running_of, MayTake}
 use Rattle.kp_snapshot.specs.Snapshots.{Snapshot}
@@ -49,3 +52,44 @@ pub record IsForeseen (m : Member) (e : RaftEvent Snapshot) (may_rise : Bool) (l
   pub based : ends_in_base (reaction m e).records ≡ false
   pub plain : (ids : List ℕ) → map (filled ids) (reaction m e).mail ≡ (reaction m e).mail
   pub silent : answers_append (reaction m e) ≡ false
+
+-- ---- messages
+
+-- a message by which at most a no-op is appended, and no image is taken
+abbrev pub IsUsual : Mail Snapshot → Type 0
+IsUsual (mail.VoteReq term from last last_term) = Unit {0}
+IsUsual (mail.VoteRep term from granted) = Unit {0}
+IsUsual (mail.Append m) = ⊥
+IsUsual (mail.AppendRep term from ok last heard) = Unit {0}
+IsUsual (mail.Install term from index index_term image) = ⊥
+IsUsual (mail.InstallRep term from index) = Unit {0}
+IsUsual (mail.Forward term from body) = Unit {0}
+
+-- of these, one that names no sessions
+abbrev pub NamesNone : Mail Snapshot → Type 0
+NamesNone (mail.VoteReq term from last last_term) = Unit {0}
+NamesNone (mail.VoteRep term from granted) = Unit {0}
+NamesNone (mail.Append m) = ⊥
+NamesNone (mail.AppendRep term from ok last heard) = ⊥
+NamesNone (mail.Install term from index index_term image) = ⊥
+NamesNone (mail.InstallRep term from index) = Unit {0}
+NamesNone (mail.Forward term from body) = Unit {0}
+
+-- the term that a message names
+abbrev pub term_in : Mail Snapshot → ℕ
+term_in (mail.VoteReq term from last last_term) = term
+term_in (mail.VoteRep term from granted) = term
+term_in (mail.Append m) = m.term
+term_in (mail.AppendRep term from ok last heard) = term
+term_in (mail.Install term from index index_term image) = term
+term_in (mail.InstallRep term from index) = term
+term_in (mail.Forward term from body) = term
+
+-- whether it is a vote that a candidate counts
+abbrev pub may_elect : Member → Mail Snapshot → Bool
+may_elect m (mail.VoteRep term from granted) = counts term m.held (running_of m) granted
+may_elect m other = false
+
+-- a member without peers
+abbrev pub is_alone : Member → Bool
+is_alone m = not (is_peer m.members m.node 1) && not (is_peer m.members m.node 2)

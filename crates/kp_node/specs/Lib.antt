@@ -16,3 +16,5 @@ pub mod Facts
 pub mod Walking
 pub mod Rising
 pub mod Foreseen
+pub mod Ahead
+pub mod Reactions

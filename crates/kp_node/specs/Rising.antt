@@ -3,15 +3,11 @@ use Rattle.std.specs.Prelude.{◌≡◌, ℕ, false, nat_lt, length, Option}
 use Rattle.kp_conn.specs.declared.phase.Phase.{Phase}
 use Rattle.kp_conn.specs.declared.phase.Phase.TheVariants as phase
 use Rattle.kp_conn.specs.Connection.{Connection, closed}
-use Rattle.kp_seats.specs.Seating.{Seating}
-use Rattle.kp_watch.specs.declared.watch.Watch.{Watch}
 use Rattle.kp_step.specs.declared.seat.Seat.{Seat}
-use Rattle.kp_step.specs.Choices.{Choices}
 use Rattle.kp_step.specs.Answers.{by_term}
 use Rattle.kp_step.specs.Settling.{refused_if}
-use Rattle.kp_step.specs.Tables.{mapped, row_at, seated}
-use Rattle.kp_step.specs.Step.{risen, ended}
-use Rattle.kp_node.specs.Walking.{IsTurned}
+use Rattle.kp_step.specs.Tables.{seated}
+use Rattle.kp_step.specs.Step.{ended}
 
 -- a connection behind a risen term, where so many answers of what waits find memory
 abbrev pub risen_as : Option ℕ → ℕ → Phase → Connection → Connection

@@ -6,6 +6,7 @@
 //! refused, how it hears of events and learns of an entry, when a question sets its watch, and what is said.
 #![tactic(auto)]
 
+mod ahead;
 mod answering;
 mod coming;
 mod connect;
@@ -17,6 +18,7 @@ mod hearing;
 mod laws;
 mod node;
 mod outcome;
+mod raft_events;
 mod refusing;
 mod rising;
 mod said;

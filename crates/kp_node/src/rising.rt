@@ -15,6 +15,7 @@ use kp_wire::WireReply;
 
 /// The term rose: a connection that waits for the reply to its connect request ends, and so does one with requests that
 /// wait, which are refused.
+#[derive(Drop)]
 pub(crate) struct Rising {
     // the index of the last applied entry, which the refusals show
     pub(crate) zxid: u64,
@@ -49,6 +50,7 @@ fn refuse_some(conn: &mut Conn, zxid: u64)
 }
 
 /// An image was taken: every connection that isn't over ends.
+#[derive(Drop)]
 pub(crate) struct Ending {}
 
 impl Change<Seat> for Ending {

@@ -1,5 +1,4 @@
-use Rattle.std.proofs.Common.{arith, ◌<◌, ◌^◌, ◌∙◌, ◌-◌, ap}
-use Rattle.kp_step.specs.Step.{count_lost}
+use Rattle.std.proofs.Common.{arith, ◌∙◌, ◌-◌, ap}
 use Rattle.kp_node.proofs.Walked.{few_lost, turned}
 use Rattle.kp_node.proofs.walking.change_each.Goals as goal
 

@@ -1,7 +1,7 @@
 use Rattle.std.proofs.Common.{not}
 use Rattle.std.specs.FinMap as map
 use Rattle.kp_step.specs.Step.{is_ready}
-use Rattle.kp_node.proofs.Walked.{notes_on, noted_all}
+use Rattle.kp_node.proofs.Walked.{notes_on}
 use Rattle.kp_node.proofs.walking.unready.Goals as goal
 
 pub loop-next-preserved : goal.loop-next-preserved

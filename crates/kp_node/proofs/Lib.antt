@@ -19,3 +19,4 @@ pub mod Walked
 pub mod Risen
 pub mod Reacted
 pub mod Mild
+pub mod Known

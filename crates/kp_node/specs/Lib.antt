@@ -18,3 +18,4 @@ pub mod Rising
 pub mod Foreseen
 pub mod Ahead
 pub mod Reactions
+pub mod Named

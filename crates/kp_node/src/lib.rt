@@ -16,6 +16,7 @@ mod foreseen;
 mod handing;
 mod hearing;
 mod laws;
+mod named;
 mod node;
 mod outcome;
 mod raft_events;

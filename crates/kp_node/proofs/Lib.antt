@@ -15,3 +15,8 @@ pub mod Touched
 pub mod Heard
 pub mod Deciding
 pub mod Starting
+pub mod Walked
+pub mod Risen
+pub mod Reacted
+pub mod Mild
+pub mod Known

@@ -13,3 +13,9 @@ pub mod Hearing
 pub mod Timing
 pub mod Starting
 pub mod Facts
+pub mod Walking
+pub mod Rising
+pub mod Foreseen
+pub mod Ahead
+pub mod Reactions
+pub mod Named

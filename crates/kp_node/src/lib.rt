@@ -6,23 +6,29 @@
 //! refused, how it hears of events and learns of an entry, when a question sets its watch, and what is said.
 #![tactic(auto)]
 
+mod ahead;
 mod answering;
 mod coming;
 mod connect;
 mod deadlines;
 mod entry;
+mod foreseen;
 mod handing;
 mod hearing;
 mod laws;
+mod named;
 mod node;
 mod outcome;
+mod raft_events;
 mod refusing;
+mod rising;
 mod said;
 mod serving;
 mod settling;
 mod start;
 mod telling;
 mod timing;
+mod walking;
 mod watched;
 
 pub use connect::{greeting, held_timeout, is_refused, opening, refusal};

@@ -7,6 +7,7 @@
 #![tactic(auto)]
 
 mod answering;
+mod appends;
 mod coming;
 mod connect;
 mod deadlines;

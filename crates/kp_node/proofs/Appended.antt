@@ -25,12 +25,12 @@ use Rattle.kp_node.proofs.Maps.{no}
 
 -- ---- entries are added one by one
 
-get_dropped : (n i : ℕ) (es : List LogEntry) → slice_get (drop n es) i ≡ slice_get es (n + i)
+pub get_dropped : (n i : ℕ) (es : List LogEntry) → slice_get (drop n es) i ≡ slice_get es (n + i)
 get_dropped zero i es = let z : i ≡ 0 + i = omega arith in ap (λ n. slice_get es n) z
 get_dropped (suc n) i [] = refl
 get_dropped (suc n) i (e ∷ es) = let z : suc (n + i) ≡ suc n + i = omega arith in get_dropped n i es ∙ ap (λ k. slice_get (e ∷ es) k) z
 
-taken_on : (es : List LogEntry) (i : ℕ) (e : LogEntry) → Some e ≡ slice_get es i → take (i + 1) es ≡ take i es ++ e ∷ []
+pub taken_on : (es : List LogEntry) (i : ℕ) (e : LogEntry) → Some e ≡ slice_get es i → take (i + 1) es ≡ take i es ++ e ∷ []
 taken_on [] i e is = absurd (cc is)
 taken_on (x ∷ xs) zero e is = let same : e ≡ x = cc is in ap (λ y. y ∷ []) (sym same)
 taken_on (x ∷ xs) (suc i) e is = let z : suc i + 1 ≡ suc (i + 1) = omega arith in ap (λ n. take n (x ∷ xs)) z ∙ ap (λ ys. x ∷ ys) (taken_on xs i e is)
@@ -112,18 +112,18 @@ module _ (me : ℕ) (h : Held) (v : Running) (m : AppendMail) (j : ℕ) where
   weighed_so : (a b c d : Bool) → Fitting a b c d → weighed_as a b c d ≡ record { kind = weigh.Taken; matched = matched h.log m.prev m.entries; keep = keep_of h.log m.prev m.entries }
   weighed_so a b c d f = ap (λ x. weighed_as x b c d) f.passes ∙ ap (λ x. weighed_as true x c d) f.new ∙ ap (λ x. weighed_as true false x d) f.behind_prev ∙ ap (λ x. weighed_as true false true x) f.open_
 
-and_left : (a b : Bool) → (a && b) ≡ true → a ≡ true
+pub and_left : (a b : Bool) → (a && b) ≡ true → a ≡ true
 and_left true b e = refl
 and_left false b e = absurd (no false refl e)
 
-and_right : (a b : Bool) → (a && b) ≡ true → b ≡ true
+pub and_right : (a b : Bool) → (a && b) ≡ true → b ≡ true
 and_right true b e = e
 and_right false b e = absurd (no false refl e)
 
-is_le : (a b : ℕ) → nat_le a b ≡ true → a ≤ b
+pub is_le : (a b : ℕ) → nat_le a b ≡ true → a ≤ b
 is_le a b e = grind (arith, nat_tests, e)
 
-is_lt : (a b : ℕ) → nat_lt a b ≡ true → a < b
+pub is_lt : (a b : ℕ) → nat_lt a b ≡ true → a < b
 is_lt a b e = grind (arith, nat_tests, e)
 
 -- no more match than there are

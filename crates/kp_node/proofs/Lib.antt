@@ -16,3 +16,4 @@ pub mod Heard
 pub mod Deciding
 pub mod Starting
 pub mod Appended
+pub mod Installed

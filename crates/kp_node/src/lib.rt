@@ -14,6 +14,7 @@ mod deadlines;
 mod entry;
 mod handing;
 mod hearing;
+mod installs;
 mod laws;
 mod node;
 mod outcome;

@@ -72,7 +72,7 @@ module _ (me : ℕ) (h : Held) (v : Running) (m : AppendMail) (j : ℕ) where
   abbrev weighed_as : Bool → Bool → Bool → Bool → Weighed
   weighed_as a b c d = cond a (cond (not b && c) (cond d (record { kind = weigh.Dropped; matched = 0; keep = None }) (record { kind = weigh.Taken; matched = matched h.log m.prev m.entries; keep = keep_of h.log m.prev m.entries })) (record { kind = weigh.Refused; matched = 0; keep = None })) (record { kind = weigh.Dropped; matched = 0; keep = None })
 
-  abbrev take_as : Bool → Bool → Bool → Bool → Outcome Snapshot
+  abbrev pub take_as : Bool → Bool → Bool → Bool → Outcome Snapshot
   take_as a b c d = cond a (cond b (record { records = []; running = v; mail = refusal me m.from h.term h.log })
       (cond c (cond d (record { records = vote_records h m.term (vote_at h m.term); running = following v m.from; mail = [] }) (fitted me h v m j))
       (record { records = vote_records h m.term (vote_at h m.term); running = following v m.from; mail = refusal me m.from m.term h.log }))) (nothing v)

@@ -17,3 +17,4 @@ pub mod Deciding
 pub mod Starting
 pub mod Appended
 pub mod Installed
+pub mod Answered

@@ -15,3 +15,4 @@ pub mod Starting
 pub mod Facts
 pub mod Appending
 pub mod Installing
+pub mod Filling

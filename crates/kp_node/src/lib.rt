@@ -12,6 +12,7 @@ mod coming;
 mod connect;
 mod deadlines;
 mod entry;
+mod filling;
 mod handing;
 mod hearing;
 mod installs;

@@ -18,3 +18,8 @@ pub mod Starting
 pub mod Appended
 pub mod Installed
 pub mod Answered
+pub mod Walked
+pub mod Risen
+pub mod Reacted
+pub mod Entering
+pub mod Mild

@@ -16,3 +16,9 @@ pub mod Facts
 pub mod Appending
 pub mod Installing
 pub mod Filling
+pub mod Walking
+pub mod Rising
+pub mod Foreseen
+pub mod Ahead
+pub mod Reactions
+pub mod Taking

@@ -6,26 +6,32 @@
 //! refused, how it hears of events and learns of an entry, when a question sets its watch, and what is said.
 #![tactic(auto)]
 
+mod ahead;
 mod answering;
+mod append_events;
 mod appends;
 mod coming;
 mod connect;
 mod deadlines;
 mod entry;
 mod filling;
+mod foreseen;
 mod handing;
 mod hearing;
 mod installs;
 mod laws;
 mod node;
 mod outcome;
+mod raft_events;
 mod refusing;
+mod rising;
 mod said;
 mod serving;
 mod settling;
 mod start;
 mod telling;
 mod timing;
+mod walking;
 mod watched;
 
 pub use connect::{greeting, held_timeout, is_refused, opening, refusal};

@@ -21,7 +21,7 @@ use Rattle.kp_node.proofs.Appended.{take_as}
 
 -- ---- records without a base
 
-ends_on : (b : Bool) (rs ss : List Record) → ends_from b (rs ++ ss) ≡ ends_from (ends_from b rs) ss
+pub ends_on : (b : Bool) (rs ss : List Record) → ends_from b (rs ++ ss) ≡ ends_from (ends_from b rs) ss
 ends_on b [] ss = refl
 ends_on b (record_.Vote term vote ∷ rs) ss = ends_on false rs ss
 ends_on b (record_.Boot boot ∷ rs) ss = ends_on false rs ss
@@ -49,11 +49,11 @@ changes_open h t v cut es =
     ends_on false (with_cut (vote_records h t v) cut) (appended es)
     ∙ ap (λ b. ends_from b (appended es)) (cut_open (vote_records h t v) cut (votes_open h t v)) ∙ entries_open es
 
-not_both : (b : Bool) → (not b && b) ≡ false
+pub not_both : (b : Bool) → (not b && b) ≡ false
 not_both true = refl
 not_both false = refl
 
-not_false : (b : Bool) → (not b && false) ≡ false
+pub not_false : (b : Bool) → (not b && false) ≡ false
 not_false true = refl
 not_false false = refl
 

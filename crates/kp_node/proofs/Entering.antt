@@ -134,12 +134,12 @@ pub agrees_so : (x : Parts) → Holds x → Agrees x.member x.store
 agrees_so x h = record { unapplied = h.unapplied; from = h.from; to = h.to }
 
 -- the connections were looked at where the term rises
-looked : (b c : Bool) (s : Seats) (o : Option Before) → (b ≡ true → c ≡ true) → IsLooked c s o → IsLooked b s o
+pub looked : (b c : Bool) (s : Seats) (o : Option Before) → (b ≡ true → c ≡ true) → IsLooked c s o → IsLooked b s o
 looked true c s None may is = sym (may refl) ∙ is
 looked false c s None may is = refl
 looked b c s (Some before) may is = is
 
-rises_low : (a b t : ℕ) → b ≤ max a t → nat_lt a b ≡ true → nat_lt a t ≡ true
+pub rises_low : (a b t : ℕ) → b ≤ max a t → nat_lt a b ≡ true → nat_lt a t ≡ true
 rises_low a b t low e = grind (arith, nat_tests, low, e)
 
 pub looked_so : (x y : Member) (m : AppendMail) (s : Store) (out : RaftOut Snapshot) (j : ℕ) (t : Store) → Appends m x s out j y t → (seats : Seats) (o : Option Before) (term term' : ℕ) → term ≡ x.held.term → term' ≡ y.held.term → IsLooked (nat_lt term m.term) seats o → IsLooked (nat_lt term term') seats o

@@ -82,12 +82,12 @@ module _ (log : Log) (i : ℕ) (there : has_index log i ≡ true) where
 -- ---- what Raft does with an image, by what it tests
 
 module _ (me : ℕ) (h : Held) (v : Running) (term from index index_term : ℕ) (image : Snapshot) where
-  abbrev reaction_as : Bool → Bool → Bool → Outcome Snapshot
+  abbrev pub reaction_as : Bool → Bool → Bool → Outcome Snapshot
   reaction_as a b c = cond a (cond b (record { records = []; running = v; mail = refusal me from h.term h.log })
       (cond c (record { records = vote_records h term (vote_at h term); running = following v from; mail = to from (mail.InstallRep term me v.commit) })
       (record { records = vote_records h term (vote_at h term) ++ record_.Base index index_term ∷ []; running = record { role = Follower; leader = from; commit = index; votes = v.votes; matches = v.matches; nexts = v.nexts }; mail = to from (mail.InstallRep term me index) }))) (nothing v)
 
-  abbrev image_as : Bool → Bool → Bool → Option Snapshot
+  abbrev pub image_as : Bool → Bool → Bool → Option Snapshot
   image_as a b c = cond a (cond b None (cond c None (Some image))) None
 
   pub record Stays (o : Outcome Snapshot) (i : Option Snapshot) : Type 0 where

@@ -22,4 +22,6 @@ pub mod Walked
 pub mod Risen
 pub mod Reacted
 pub mod Entering
+pub mod Left
+pub mod Replaced
 pub mod Mild

@@ -22,3 +22,5 @@ pub mod Foreseen
 pub mod Ahead
 pub mod Reactions
 pub mod Taking
+pub mod Leaving
+pub mod Replacing

@@ -35,10 +35,6 @@ taken_on [] i e is = absurd (cc is)
 taken_on (x ∷ xs) zero e is = let same : e ≡ x = cc is in ap (λ y. y ∷ []) (sym same)
 taken_on (x ∷ xs) (suc i) e is = let z : suc i + 1 ≡ suc (i + 1) = omega arith in ap (λ n. take n (x ∷ xs)) z ∙ ap (λ ys. x ∷ ys) (taken_on xs i e is)
 
-pub none_added : (x : Store) (from : ℕ) (es : List LogEntry) → x ≡ with_all x (take (from - from) (drop from es))
-none_added x from es = let z : from - from ≡ 0 = omega arith in
-    ap (λ (us : List LogEntry). let w : Store = record { state = x.state; unapplied = us } in w) (sym (append-nil x.unapplied)) ∙ ap (λ n. with_all x (take n (drop from es))) (sym z)
-
 one_added_of : (x y z : Store) (from k : ℕ) (es : List LogEntry) → from ≤ k → y ≡ with_all x (take (k - from) (drop from es)) → (o : Option LogEntry) → o ≡ slice_get es k → Some z ≡ option_map (with_entry y) o → z ≡ with_all x (take (k + 1 - from) (drop from es))
 one_added_of x y z from k es le so_far None is one = absurd (cc one)
 one_added_of x y z from k es le so_far (Some e) is one =
@@ -52,14 +48,6 @@ one_added_of x y z from k es le so_far (Some e) is one =
 
 pub one_added : (x y z : Store) (from k : ℕ) (es : List LogEntry) → from ≤ k → y ≡ with_all x (take (k - from) (drop from es)) → Some z ≡ option_map (with_entry y) (slice_get es k) → z ≡ with_all x (take (k + 1 - from) (drop from es))
 one_added x y z from k es le so_far one = one_added_of x y z from k es le so_far (slice_get es k) refl one
-
-pub room_left : (x y : Store) (from k : ℕ) (es : List LogEntry) → from ≤ k → k < length es → y ≡ with_all x (take (k - from) (drop from es)) → last_of x + (length es - from) ≤ 2 ^ 62 → last_of y < 2 ^ 62
-room_left x y from k es le lt so_far room =
-    let dropped = length-drop from es in
-    let len : length (take (k - from) (drop from es)) ≡ k - from = length-take-le (k - from) (drop from es) (omega (arith, le, lt, dropped)) in
-    let whole = length-append x.unapplied (take (k - from) (drop from es)) in
-    let last : last_of y ≡ x.state.applied + length (x.unapplied ++ take (k - from) (drop from es)) = ap last_of so_far in
-    omega (arith, le, lt, len, whole, last, room)
 
 pub so_added : (x y : Store) (from k : ℕ) (es : List LogEntry) → from ≤ k → y ≡ with_all x (take (k - from) (drop from es)) → y ≡ with_all x (drop from (take k es))
 so_added x y from k es le so_far =
@@ -190,9 +178,6 @@ module _ (x : Member) (m : AppendMail) where
 
   idle : (j : ℕ) → is_taken (weighs x m).kind ≡ false → Idles x.node x.held (running_of x) m j (takes x m j)
   idle j is = idles x.node x.held (running_of x) m j (passes_append x.members x.node m) (nat_lt m.term x.held.term) (fits x.held.log m.prev m.prev_term) (clashes x.held.log m.prev m.entries x.vars.commit) is
-
-  pub none_adds : (j : ℕ) → is_taken (weighs x m).kind ≡ false → added (takes x m j).records ≡ 0
-  none_adds j is = (idle j is).adds
 
   none_taken_all : (s : Store) → Agrees x s → (out : RaftOut Snapshot) (y : Member) → is_taken (weighs x m).kind ≡ false → RaftSteps x (takes x m (length m.entries)) out y → out.image ≡ None → Appends m x s out (length m.entries) y s
   none_taken_all s agrees out y is steps image =
@@ -347,19 +332,6 @@ pub so_taken : (x : Member) (m : AppendMail) (s : Store) → Agrees x s → is_t
     → (out : RaftOut Snapshot) (y : Member) → RaftSteps x (takes x m j) out y → out.image ≡ None → Appends m x s out j y t
 so_taken x m s agrees is end k at j le within t given out y steps image = some_taken x m s agrees is end j out y t (subst (λ i. i ≤ j) (sym at) le) within given steps image
 
--- a member that was made ready before takes it as it would have been taken then
-pub unready : (m : AppendMail) (x z : Member) (s t : Store) (out : RaftOut Snapshot) (j : ℕ) (y : Member) → z ≡ record x { ready = true } → Appends m z s out j y t → Appends m x s out j y t
-unready m x z s t out j y is a = back (subst (λ (u : Member). Appends m u s out j y t) is a)
-  where
-    back : Appends m (record x { ready = true }) s out j y t → Appends m x s out j y t
-    back b = record {
-      room = b.room;
-      steps = record { records = b.steps.records; mail = b.steps.mail; added = b.steps.added; truncated = b.steps.truncated; node = b.steps.node; members = b.steps.members; held = b.steps.held; running = b.steps.running; ready = b.steps.ready };
-      image = b.image;
-      state = b.state;
-      agrees = b.agrees;
-    }
-
 pub agrees_ready : (x z : Member) (s : Store) → z ≡ record x { ready = true } → Agrees x s → Agrees z s
 agrees_ready x z s is a = subst (λ (u : Member). Agrees u s) (sym is) (record { unapplied = a.unapplied; from = a.from; to = a.to })
 
@@ -369,19 +341,11 @@ end_of x n is le = subst (λ i. i ≤ last_index x.held.log) is le
 pub given_by : (s t u : Store) (m : AppendMail) (j : ℕ) (w v : Weighed) → w ≡ v → t ≡ cut_back s w.keep → u ≡ with_all t (drop w.matched (take j m.entries)) → IsGiven s v j m u
 given_by s t u m j w v same cut more = subst (λ (i : Weighed). IsGiven s i j m u) same (more ∙ ap (λ (y : Store). with_all y (drop w.matched (take j m.entries))) cut)
 
-pub ready_ok : {E : Type 0} (m : AppendMail) (x z : Member) (s t : Store) (y : Member) (r : Result (RaftOut Snapshot × ℕ) E) → z ≡ record x { ready = true } → IfOk r (λ o. Appends m z s o.0 o.1 y t) → IfOk r (λ o. Appends m x s o.0 o.1 y t)
-ready_ok m x z s t y r is h = if_ok r (λ o a. unready m x z s t o.0 o.1 y is a) h
-
 pub kind_of : (w v : Weighed) (b : Bool) → w ≡ v → is_taken w.kind ≡ b → is_taken v.kind ≡ b
 kind_of w v b same is = subst (λ (i : Weighed). is_taken i.kind ≡ b) same is
 
 pub few_by : (x z : Member) (m : AppendMail) (w : Weighed) → w ≡ weighs z m → is_taken w.kind ≡ true → w.matched ≤ length m.entries
 few_by x z m w same is = subst (λ (i : Weighed). i.matched ≤ length m.entries) (sym same) (few_matched z m (kind_of w (weighs z m) true same is))
-
-pub back_by : (x z : Member) (m : AppendMail) (w : Weighed) (s : Store) (n : ℕ) → z ≡ record x { ready = true } → Agrees x s → w ≡ weighs z m → is_taken w.kind ≡ true → n ≡ x.vars.commit → n ≤ last_index x.held.log → IfSome w.keep (λ k. (s.state.applied ≤ k) × (k ≤ last_of s))
-back_by x z m w s n made a same is commit le =
-    let end = end_of z n (commit ∙ ap (λ (u : Member). u.vars.commit) (sym made)) (subst (λ (u : Member). n ≤ last_index u.held.log) (sym made) le) in
-    subst (λ (i : Weighed). IfSome i.keep (λ k. (s.state.applied ≤ k) × (k ≤ last_of s))) (sym same) (may_cut z m s (agrees_ready x z s made a) (kind_of w (weighs z m) true same is) end)
 
 pub add_by : (x z : Member) (m : AppendMail) (w : Weighed) (s t : Store) (n last : ℕ) → z ≡ record x { ready = true } → Agrees x s → w ≡ weighs z m → is_taken w.kind ≡ true → n ≡ x.vars.commit → n ≤ last_index x.held.log → last ≡ last_index x.held.log → last ≤ 2 ^ 62 → t ≡ cut_back s w.keep → last_of t + (length m.entries - w.matched) ≤ 2 ^ 62
 add_by x z m w s t n last made a same is commit le at fits_ cut =

@@ -130,9 +130,6 @@ module _ (now : ℕ) (m : AppendMail) (x y : Parts) (r : Taken) (h : Holds x) (d
     counted = let a = d.events in omega (arith, a, few);
   }
 
-pub agrees_so : (x : Parts) → Holds x → Agrees x.member x.store
-agrees_so x h = record { unapplied = h.unapplied; from = h.from; to = h.to }
-
 -- the connections were looked at where the term rises
 pub looked : (b c : Bool) (s : Seats) (o : Option Before) → (b ≡ true → c ≡ true) → IsLooked c s o → IsLooked b s o
 looked true c s None may is = sym (may refl) ∙ is

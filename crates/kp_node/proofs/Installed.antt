@@ -60,9 +60,6 @@ module _ (log : Log) (i : ℕ) (there : has_index log i ≡ true) where
       ap (λ b. cond b None (slice_get log.entries (k + 1 - log.base - 1))) above
       ∙ ap (λ n. slice_get log.entries n) place ∙ sym (get_dropped (i - log.base) (k - i) log.entries)
 
-  pub none_yet : (list : List LogEntry) → list ≡ [] → list ≡ take (i - i) (behind log i)
-  none_yet list is = let z : i - i ≡ 0 = omega arith in is ∙ sym (ap (λ n. take n (behind log i)) z)
-
   one_more_of : (old new : List LogEntry) (k : ℕ) → i ≤ k → old ≡ take (k - i) (behind log i) → (o : Option LogEntry) → o ≡ slice_get (behind log i) (k - i) → Some new ≡ option_map (λ e. old ++ e ∷ []) o → new ≡ take (k + 1 - i) (behind log i)
   one_more_of old new k le so_far None is one = absurd (cc one)
   one_more_of old new k le so_far (Some e) is one =
@@ -75,9 +72,6 @@ module _ (log : Log) (i : ℕ) (there : has_index log i ≡ true) where
 
   pub all_there : (list : List LogEntry) (k : ℕ) → last_index log ≤ k → list ≡ take (k - i) (behind log i) → list ≡ behind log i
   all_there list k le so_far = let len = len_behind in so_far ∙ take_all (k - i) (behind log i) (omega (arith, len, le))
-
-  pub few_there : (list : List LogEntry) → list ≡ behind log i → last_index log ≤ 2 ^ 62 → i + length list ≤ 2 ^ 62
-  few_there list is fits = let len = len_behind in let b = high in let same : length list ≡ length (behind log i) = ap length is in omega (arith, len, b, same, fits)
 
 -- ---- what Raft does with an image, by what it tests
 

@@ -176,9 +176,6 @@ whole_input q is = ap (λ (b : Bool). let z : Input Snapshot = if b then asks (e
 part_input : (q : Sending) → is_whole images q.index q.index_term q.image ≡ false → install_input q ≡ idle
 part_input q is = ap (λ (b : Bool). let z : Input Snapshot = if b then asks (event.Deliver (mail_of q)) else idle in z) is
 
-asked_so : (ch : Choices) (x : Node) (now : ℕ) (q : Sending) → install_as ch x now q (asks (event.Deliver (mail_of q))) ≡ install_with ch x now q (reacted x (asks (event.Deliver (mail_of q)))) (installed x (asks (event.Deliver (mail_of q))))
-asked_so ch x now q = refl
-
 pub whole_given : (now : ℕ) (q : Sending) (p x y : Parts) (r : Moved) (g : Given) → p ≡ x → Holds p → is_whole images q.index q.index_term q.image ≡ true → IsMoved now (reaction_to x.member (mail_of q)) (image_by x.member (mail_of q)) x r y → g ≡ given_behind_it r (standing_of (node_of y))
     → (ch : Choices) × Steps (install_step ch (node_of x) now q) x y g
 unfolding reacted installed

@@ -1,16 +1,14 @@
 -- What Raft makes of an append: at most one message, no base, no new leader, and a term that is its own or the sender's.
-use Rattle.std.proofs.Common.{◌≡◌, ℕ, zero, suc, ◌+◌, ◌-◌, ◌≤◌, ◌<◌, ◌^◌, Bool, true, false, cond, not, ◌&&◌, List, [], ◌∷◌, ◌++◌, length, max, Option, Some, None, refl, ap, sym, subst, ◌∙◌, arith}
-use Rattle.std.proofs.lemmas.Bool.Decides.{nat_tests}
-use Rattle.std.specs.Prelude.{nat_le, nat_lt, nat_eq}
+use Rattle.std.proofs.Common.{◌≡◌, ℕ, ◌+◌, ◌-◌, ◌≤◌, Bool, true, false, cond, not, ◌&&◌, List, [], ◌∷◌, ◌++◌, length, max, Option, Some, None, refl, ap, ◌∙◌, arith}
+use Rattle.std.specs.Prelude.{nat_lt, nat_eq}
 use Rattle.kp_model.specs.LogEntry.{LogEntry}
 use Rattle.kp_entry.specs.declared.record.Record.{Record}
 use Rattle.kp_entry.specs.declared.record.Record.TheVariants as record_
 use Rattle.kp_entry.specs.Heads.{appended}
 use Rattle.kp_entry.specs.Held.{Held, replay}
 use Rattle.kp_raft.specs.declared.append.AppendMail.{AppendMail}
-use Rattle.kp_raft.specs.declared.mail.Mail.{Mail}
-use Rattle.kp_raft.specs.Parts.{Running, Outcome, nothing, is_leader, vote_records, with_cut, changes, vote_at, following}
-use Rattle.kp_raft.specs.Appends.{fits, clashes, keep_of, missing, fitted, refusal}
+use Rattle.kp_raft.specs.Parts.{Running, Outcome, is_leader, vote_records, with_cut, changes, vote_at}
+use Rattle.kp_raft.specs.Appends.{fits, clashes, keep_of, missing}
 use Rattle.kp_raft.specs.Steps.{passes_append}
 use Rattle.kp_raft.specs.Members.{Member, running_of}
 use Rattle.kp_raft.proofs.Replays.{replay_vote, replay_changes}

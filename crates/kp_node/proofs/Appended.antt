@@ -1,11 +1,11 @@
 -- An append: Raft and the storage take equally many of its entries.
-use Rattle.std.proofs.Common.{◌≡◌, ℕ, zero, suc, ◌+◌, ◌-◌, ◌≤◌, ◌<◌, ◌^◌, Bool, true, false, cond, not, ◌&&◌, ◌||◌, List, [], ◌∷◌, ◌++◌, length, take, drop, max, min, Option, Some, None, refl, ap, sym, subst, ◌∙◌, arith, append-nil, append_assoc, length-append, length-take-le}
+use Rattle.std.proofs.Common.{◌≡◌, ℕ, zero, suc, ◌+◌, ◌-◌, ◌≤◌, ◌<◌, ◌^◌, Bool, true, false, cond, not, ◌&&◌, List, [], ◌∷◌, ◌++◌, length, take, drop, max, min, Option, Some, None, refl, ap, sym, subst, ◌∙◌, arith, append-nil, append_assoc, length-append, length-take-le}
 use Rattle.std.proofs.lemmas.Bool.Decides.{nat_tests}
 use Rattle.std.proofs.lemmas.List.{drop-take, drop-append-le, take-append-le, take_all, length-drop, drop_all}
-use Rattle.std.specs.Prelude.{nat_le, nat_lt, nat_eq, slice_get, option_map, IfSome, IfOk, Result, IsTrue, if◌then◌else◌}
+use Rattle.std.specs.Prelude.{nat_le, nat_lt, nat_eq, slice_get, option_map, IfSome, IsTrue, if◌then◌else◌}
 use Rattle.kp_model.specs.LogEntry.{LogEntry}
 use Rattle.kp_model.specs.Store.{Store, last as last_of, with_entry, truncated}
-use Rattle.kp_entry.specs.Log.{Log, behind, last_index, term_of, with_entries}
+use Rattle.kp_entry.specs.Log.{Log, behind, last_index, with_entries}
 use Rattle.kp_entry.specs.Held.{Held, replay}
 use Rattle.kp_storage.specs.Kept.{with_all}
 use Rattle.kp_raft.specs.declared.append.AppendMail.{AppendMail}
@@ -16,10 +16,10 @@ use Rattle.kp_raft.specs.Parts.{Running, Outcome, nothing, vote_records, vote_at
 use Rattle.kp_raft.specs.Appends.{fits, clashes, conflicts, matched, keep_of, missing, agreeing, below_base, refusal, fitted}
 use Rattle.kp_raft.specs.Steps.{added, passes_append, fitting}
 use Rattle.kp_raft.specs.Members.{Member, running_of, Steps as RaftSteps}
-use Rattle.kp_raft.proofs.Replays.{held_with, replay_vote, replay_changes, still_adds, changes_add}
-use Rattle.kp_raft.proofs.StepFacts.{Ends, fitted_ends, if_ok}
+use Rattle.kp_raft.proofs.Replays.{replay_vote, replay_changes, still_adds, changes_add}
+use Rattle.kp_raft.proofs.StepFacts.{Ends, fitted_ends}
 use Rattle.kp_snapshot.specs.Snapshots.{Snapshot}
-use Rattle.kp_step.specs.Asking.{is_taken, entries_taken}
+use Rattle.kp_step.specs.Asking.{is_taken}
 use Rattle.kp_node.specs.Appending.{Agrees, Appends, IsGiven, cut_back, weighs, takes}
 use Rattle.kp_node.proofs.Maps.{no}
 

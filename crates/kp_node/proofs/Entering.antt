@@ -1,30 +1,26 @@
 -- What Raft and the storage took of an append, and what follows of it, is the step.
-use Rattle.std.proofs.Common.{◌≡◌, ℕ, ◌+◌, ◌-◌, ◌≤◌, ◌<◌, ◌^◌, Bool, true, false, cond, not, ◌&&◌, List, [], ◌∷◌, ◌++◌, length, max, Option, Some, None, refl, ap, sym, subst, ◌∙◌, arith, append-nil}
+use Rattle.std.proofs.Common.{◌≡◌, ℕ, ◌+◌, ◌-◌, ◌≤◌, ◌<◌, ◌^◌, Bool, true, false, List, [], length, max, Option, Some, None, refl, ap, sym, subst, ◌∙◌, arith, append-nil}
 use Rattle.std.proofs.lemmas.Bool.Decides.{nat_tests}
 use Rattle.std.specs.Prelude.{map, nat_lt, if◌then◌else◌}
-use Rattle.std.specs.Ordering.{nat_cmp}
 use Rattle.std.specs.FinMap as map
-use Rattle.std.specs.FinMap.{FinMap}
-use Rattle.kp_entry.specs.Log.{behind}
 use Rattle.kp_entry.specs.Held.{replay}
 use Rattle.kp_model.specs.Store.{Store}
 use Rattle.kp_raft.specs.declared.append.AppendMail.{AppendMail}
 use Rattle.kp_raft.specs.declared.event.RaftOut.{RaftOut}
 use Rattle.kp_raft.specs.declared.mail.Mail.TheVariants as mail
 use Rattle.kp_raft.specs.Parts as raft
-use Rattle.kp_raft.specs.Members.{Member, Steps as RaftSteps}
+use Rattle.kp_raft.specs.Members.{Member}
 use Rattle.kp_event.specs.declared.event.NodeEventKind.TheVariants as kind
 use Rattle.kp_snapshot.specs.Snapshots.{Snapshot}
 use Rattle.kp_seats.specs.Seating.{Seating}
 use Rattle.kp_watch.specs.declared.watch.Watch.{Watch}
-use Rattle.kp_expiry.specs.declared.heard.Heard.{Heard}
 use Rattle.kp_conn.specs.declared.phase.Phase.{Phase}
 use Rattle.kp_conn.specs.declared.phase.Phase.TheVariants as phase
 use Rattle.kp_conn.specs.Connection.{Connection}
 use Rattle.kp_step.specs.declared.seat.Seat.{Seat}
 use Rattle.kp_step.specs.Choices.{Choices}
 use Rattle.kp_step.specs.Node.{Node, Seats}
-use Rattle.kp_step.specs.Asking.{Words, asked, reacted, installed, cut_at, entries_taken, own_image}
+use Rattle.kp_step.specs.Asking.{Words, asked, reacted, installed, cut_at, own_image}
 use Rattle.kp_step.specs.Committing.{hear_all}
 use Rattle.kp_step.specs.Tables.{Row, tabled}
 use Rattle.kp_step.specs.Step.{together, raft_table, with_row_if, risen, risen_as, heard_after, all_heard, standing_of, swept, count_lost, newly_ready, filled, step, turned}
@@ -36,7 +32,7 @@ use Rattle.kp_node.specs.Parts.{Parts, node_of}
 use Rattle.kp_node.specs.Holding.{Holds, AreKept}
 use Rattle.kp_node.specs.Steps.{images, Steps}
 use Rattle.kp_node.specs.Ahead.{IsLooked}
-use Rattle.kp_node.specs.Appending.{Agrees, Appends, weighs, takes}
+use Rattle.kp_node.specs.Appending.{Appends, takes}
 use Rattle.kp_node.specs.Filling.{answers}
 use Rattle.kp_node.specs.Reactions.{Turns}
 use Rattle.kp_node.specs.Taking.{IsTaken, append_with, append_step, given_of}

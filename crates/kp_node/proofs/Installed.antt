@@ -1,29 +1,27 @@
 -- An image that a leader sends takes the place of the own state.
-use Rattle.std.proofs.Common.{◌≡◌, ℕ, zero, suc, ◌+◌, ◌-◌, ◌≤◌, ◌<◌, ◌^◌, Bool, true, false, cond, not, ◌&&◌, List, [], ◌∷◌, ◌++◌, length, take, drop, Option, Some, None, refl, ap, sym, subst, ◌∙◌, arith, append-nil}
+use Rattle.std.proofs.Common.{◌≡◌, ℕ, ◌+◌, ◌-◌, ◌≤◌, Bool, true, false, cond, not, ◌&&◌, List, [], ◌∷◌, ◌++◌, length, take, drop, Option, Some, None, refl, ap, sym, subst, ◌∙◌, arith, append-nil}
 use Rattle.std.proofs.lemmas.Bool.Decides.{nat_tests}
 use Rattle.std.proofs.lemmas.List.{length-drop, take_all}
-use Rattle.std.specs.Prelude.{nat_le, nat_lt, nat_eq, ◌==◌, slice_get, option_map, is_some, IfSome, Ok, if◌then◌else◌}
+use Rattle.std.specs.Prelude.{nat_le, nat_lt, ◌==◌, slice_get, option_map, is_some, IfSome, Ok, if◌then◌else◌}
 use Rattle.std.specs.Ordering.{nat_cmp}
 use Rattle.std.specs.FinMap.{FinMap}
 use Rattle.kp_model.specs.declared.read.Role.TheVariants.{Follower}
 use Rattle.kp_model.specs.LogEntry.{LogEntry}
 use Rattle.kp_entry.specs.Entries.{entries}
 use Rattle.kp_entry.specs.Decoding.{IsEntryOf}
-use Rattle.kp_entry.specs.Log.{Log, behind, entry_at, has_index, last_index, term_of, term_at, kept_behind, rebased}
-use Rattle.kp_entry.specs.declared.record.Record.{Record}
+use Rattle.kp_entry.specs.Log.{Log, behind, entry_at, has_index, last_index, kept_behind, rebased}
 use Rattle.kp_entry.specs.declared.record.Record.TheVariants as record_
 use Rattle.kp_entry.specs.Held.{Held, replay}
 use Rattle.kp_entry.proofs.Replays.{replay_append}
 use Rattle.kp_model.specs.Store.{Store}
 use Rattle.kp_expiry.specs.declared.heard.Heard.{Heard}
-use Rattle.kp_raft.specs.declared.mail.Mail.{Mail}
 use Rattle.kp_raft.specs.declared.mail.Mail.TheVariants as mail
 use Rattle.kp_raft.specs.declared.event.RaftOut.{RaftOut}
 use Rattle.kp_raft.specs.Parts.{Running, Outcome, nothing, vote_records, vote_at, following, to}
 use Rattle.kp_raft.specs.Appends.{refusal}
 use Rattle.kp_raft.specs.Steps.{passes}
 use Rattle.kp_raft.specs.Members.{Member, running_of, Steps as RaftSteps}
-use Rattle.kp_raft.proofs.Replays.{held_with, replay_vote}
+use Rattle.kp_raft.proofs.Replays.{replay_vote}
 use Rattle.kp_snapshot.specs.Snapshots.{Snapshot}
 use Rattle.kp_step.specs.Asking.{is_whole}
 use Rattle.kp_step.specs.Step.{all_heard}
@@ -31,7 +29,7 @@ use Rattle.kp_node.specs.Steps.{images}
 use Rattle.kp_node.specs.declared.installs.Made.{Made}
 use Rattle.kp_node.specs.declared.installs.Sending.{Sending}
 use Rattle.kp_node.specs.Appending.{Agrees}
-use Rattle.kp_node.specs.Installing.{Installs, IsMade, IsMadeIf, mail_of, reaction_to, image_by, store_in, heard_in, stored, state_behind, is_taken}
+use Rattle.kp_node.specs.Installing.{Installs, IsMadeIf, mail_of, reaction_to, image_by, store_in, heard_in, stored, state_behind, is_taken}
 use Rattle.kp_node.proofs.Maps.{no}
 use Rattle.kp_node.proofs.Appended.{get_dropped, taken_on, and_left, and_right, is_le}
 

@@ -1,5 +1,5 @@
 -- The connections behind an image that was taken are those of the definition, with the luck that each of them had.
-use Rattle.std.proofs.Common.{◌≡◌, ◌⊎◌, inl, inr, ℕ, ◌-◌, Bool, true, false, List, Option, Some, None, refl, ap, sym, subst, ◌∙◌}
+use Rattle.std.proofs.Common.{◌≡◌, ◌⊎◌, inl, inr, ℕ, ◌-◌, Bool, true, false, List, Option, Some, None, refl, ap, sym, ◌∙◌}
 use Rattle.std.specs.Prelude.{if◌then◌else◌}
 use Rattle.std.specs.Option.{option_map}
 use Rattle.std.specs.FinMap as map
@@ -20,7 +20,7 @@ use Rattle.kp_node.specs.Walking.{Loosens}
 use Rattle.kp_node.specs.Rising.{risen_as, risen_with}
 use Rattle.kp_node.specs.Leaving.{IsSeatRisenIf, IsSeatLeft, Leaves}
 use Rattle.kp_node.proofs.Risen.{rising_loosens, ending_loosens}
-use Rattle.kp_node.proofs.Reacted.{Tables, tables}
+use Rattle.kp_node.proofs.Reacted.{tables}
 
 abbrev Looser : Seat → Seat → Type 0
 Looser s t = (served_by t.connection.phase ≡ served_by s.connection.phase) ⊎ (served_by t.connection.phase ≡ None)

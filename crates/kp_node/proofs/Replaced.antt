@@ -1,5 +1,5 @@
 -- What Raft, the storage and the deadlines took of an image, and what follows of it, is the step.
-use Rattle.std.proofs.Common.{◌≡◌, ℕ, ◌+◌, ◌-◌, ◌≤◌, ◌<◌, ◌^◌, Bool, true, false, cond, not, ◌&&◌, ◌||◌, List, [], ◌∷◌, ◌++◌, length, max, Option, Some, None, is_some, refl, ap, sym, subst, ◌∙◌, arith, append-nil}
+use Rattle.std.proofs.Common.{◌≡◌, ℕ, ◌+◌, ◌-◌, ◌≤◌, ◌<◌, ◌^◌, Bool, true, false, not, ◌&&◌, ◌||◌, List, [], ◌∷◌, ◌++◌, length, max, Option, Some, None, is_some, refl, ap, sym, subst, ◌∙◌, arith, append-nil}
 use Rattle.std.proofs.lemmas.Bool.Decides.{nat_tests}
 use Rattle.std.specs.Prelude.{map, nat_lt, nat_le, if◌then◌else◌}
 use Rattle.std.specs.Ordering.{nat_cmp}
@@ -7,7 +7,7 @@ use Rattle.std.specs.FinMap as map
 use Rattle.std.specs.FinMap.{FinMap}
 use Rattle.kp_entry.specs.declared.record.Record.{Record}
 use Rattle.kp_entry.specs.declared.record.Record.TheVariants as record_
-use Rattle.kp_entry.specs.Log.{behind, last_index}
+use Rattle.kp_entry.specs.Log.{last_index}
 use Rattle.kp_entry.specs.Held.{Held, replay}
 use Rattle.kp_entry.proofs.Replays.{replay_append}
 use Rattle.kp_model.specs.State.{State}
@@ -16,7 +16,7 @@ use Rattle.kp_raft.specs.declared.event.RaftOut.{RaftOut}
 use Rattle.kp_raft.specs.declared.event.RaftEvent.TheVariants as event
 use Rattle.kp_raft.specs.Parts.{Running, Outcome, nothing, is_leader, vote_records, vote_at}
 use Rattle.kp_raft.specs.Steps.{passes}
-use Rattle.kp_raft.specs.Members.{Member, running_of, Steps as RaftSteps}
+use Rattle.kp_raft.specs.Members.{Member, running_of}
 use Rattle.kp_raft.proofs.Replays.{replay_vote}
 use Rattle.kp_event.specs.declared.event.NodeEventKind.TheVariants as kind
 use Rattle.kp_snapshot.specs.Snapshots.{Snapshot}
@@ -42,7 +42,7 @@ use Rattle.kp_node.specs.Filling.{answers}
 use Rattle.kp_node.specs.Installing.{Installs, mail_of, reaction_to, image_by, state_behind}
 use Rattle.kp_node.specs.Leaving.{Leaves}
 use Rattle.kp_node.specs.Replacing.{IsMoved, install_input, install_with, install_as, install_step, given_behind_it}
-use Rattle.kp_node.proofs.Answered.{ends_on, votes_open, not_both, not_false}
+use Rattle.kp_node.proofs.Answered.{votes_open, not_both, not_false}
 use Rattle.kp_node.proofs.Installed.{reaction_as, image_as}
 use Rattle.kp_node.proofs.Entering.{looked, rises_low}
 use Rattle.kp_node.proofs.Left.{Left, left}

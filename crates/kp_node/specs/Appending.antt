@@ -1,5 +1,5 @@
 -- An append: the log and the storage take equally many of its entries.
-use Rattle.std.specs.Prelude.{◌≡◌, ℕ, ◌≤◌, List, length, drop, Option, Some, None}
+use Rattle.std.specs.Prelude.{◌≡◌, ℕ, ◌≤◌, length, drop, Option, Some, None}
 use Rattle.std.specs.Prelude as list
 use Rattle.kp_storage.specs.Kept.{with_all}
 use Rattle.kp_model.specs.Store.{Store, truncated}

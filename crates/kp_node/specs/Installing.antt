@@ -1,12 +1,11 @@
 -- An image that a leader sends: whether it is taken, and what Raft, the storage and the deadlines make of it.
-use Rattle.std.specs.Prelude.{◌≡◌, ◌&&◌, ◌||◌, not, nat_lt, nat_le, ℕ, Bool, true, false, is_some, List, Option, Some, None, cond, if◌then◌else◌}
+use Rattle.std.specs.Prelude.{◌≡◌, ◌&&◌, not, nat_lt, nat_le, ℕ, Bool, true, false, is_some, Option, Some, None, if◌then◌else◌}
 use Rattle.std.specs.Ordering.{nat_cmp}
 use Rattle.std.specs.FinMap.{FinMap}
 use Rattle.kp_model.specs.State.{State}
 use Rattle.kp_model.specs.Store.{Store}
 use Rattle.kp_entry.specs.Log.{Log, kept_behind, last_index}
 use Rattle.kp_expiry.specs.declared.heard.Heard.{Heard}
-use Rattle.kp_raft.specs.declared.event.RaftEvent.{RaftEvent}
 use Rattle.kp_raft.specs.declared.event.RaftEvent.TheVariants as event
 use Rattle.kp_raft.specs.declared.event.RaftOut.{RaftOut}
 use Rattle.kp_raft.specs.declared.mail.Mail.{Mail}

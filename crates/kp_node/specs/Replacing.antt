@@ -1,5 +1,5 @@
 -- What a node's parts become where a leader sends an image.
-use Rattle.std.specs.Prelude.{◌≡◌, ◌+◌, ℕ, nat_lt, List, [], map, is_some, Option, Some, None, if◌then◌else◌}
+use Rattle.std.specs.Prelude.{◌≡◌, ◌+◌, ℕ, nat_lt, [], map, is_some, Option, None, if◌then◌else◌}
 use Rattle.kp_entry.specs.Held.{replay}
 use Rattle.kp_raft.specs.declared.event.RaftEvent.TheVariants as event
 use Rattle.kp_raft.specs.Parts.{Outcome}

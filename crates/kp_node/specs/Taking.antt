@@ -1,5 +1,5 @@
 -- What a node's parts become where an append comes.
-use Rattle.std.specs.Prelude.{◌≡◌, ◌+◌, ℕ, nat_lt, List, [], map, length, Option, Some, None, if◌then◌else◌}
+use Rattle.std.specs.Prelude.{◌≡◌, ◌+◌, ℕ, nat_lt, [], map, length, Some, None, if◌then◌else◌}
 use Rattle.kp_entry.specs.Held.{replay}
 use Rattle.kp_raft.specs.declared.append.AppendMail.{AppendMail}
 use Rattle.kp_raft.specs.declared.mail.Mail.TheVariants as mail

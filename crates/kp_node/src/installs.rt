@@ -1,10 +1,9 @@
 //! An image that a leader sends takes the place of the own state.
 
-ghost use Rattle.std.specs.Prelude.{◌≡◌, ℕ, ◌+◌, ◌-◌, ◌^◌, ◌<◌, ◌≤◌, ◌++◌, ◌∷◌, ◌&&◌, true, [], length, Some, None, IfOk, IfSome, OnOk, OnErr, IsTrue, IsOk};
+ghost use Rattle.std.specs.Prelude.{◌≡◌, ℕ, ◌+◌, ◌-◌, ◌^◌, ◌<◌, ◌≤◌, ◌++◌, ◌∷◌, ◌&&◌, true, [], length, Some, None, IfOk, OnOk, OnErr, IsTrue, IsOk};
 ghost use Rattle.std.specs.Option.{option_map};
 ghost use Rattle.kp_snapshot.specs.Snapshots.{Snapshot};
-ghost use Rattle.kp_entry.specs.Log.{behind, entry_at, has_index, kept_behind, last_index};
-ghost use Rattle.kp_step.specs.Step.{all_heard as heard_of_all};
+ghost use Rattle.kp_entry.specs.Log.{behind, entry_at, has_index, kept_behind};
 ghost use Rattle.kp_raft.specs.Members.{Steps};
 ghost use Rattle.kp_step.specs.Asking.{is_whole};
 ghost use Rattle.kp_node.specs.Appending.{Agrees};

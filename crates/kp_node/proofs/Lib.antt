@@ -15,8 +15,14 @@ pub mod Touched
 pub mod Heard
 pub mod Deciding
 pub mod Starting
+pub mod Appended
+pub mod Installed
+pub mod Answered
 pub mod Walked
 pub mod Risen
 pub mod Reacted
+pub mod Entering
+pub mod Left
+pub mod Replaced
 pub mod Mild
 pub mod Known

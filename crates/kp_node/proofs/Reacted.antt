@@ -55,17 +55,17 @@ any = record { room = None; luck = λ q. record { events = None; requests = None
 -- ---- the connections
 
 -- by some choices they are those of the table
-record Tables (b : Bool) (zxid : ℕ) (t : Seating Seat) (ws : List Watch) (u : Seating Seat) (vs : List Watch) (list : List ℕ) (count : ℕ) : Type 0 where
-  ch : Choices
-  seats : u.seats ≡ (with_row_if b (risen ch zxid) (tabled t.seats ws)).seats
-  next : u.next ≡ t.next
-  served : (q : ℕ) → map.get u.sessions q ≡ served_at (map.get u.seats q)
-  plain : (with_row_if b (risen ch zxid) (tabled t.seats ws)).watches ≡ ws
-  watches : vs ≡ swept u.seats ws
-  ready : list ≡ newly_ready t.seats u.seats
-  lost : count ≡ count_lost u.seats - count_lost t.seats
+pub record Tables (b : Bool) (zxid : ℕ) (t : Seating Seat) (ws : List Watch) (u : Seating Seat) (vs : List Watch) (list : List ℕ) (count : ℕ) : Type 0 where
+  pub ch : Choices
+  pub seats : u.seats ≡ (with_row_if b (risen ch zxid) (tabled t.seats ws)).seats
+  pub next : u.next ≡ t.next
+  pub served : (q : ℕ) → map.get u.sessions q ≡ served_at (map.get u.seats q)
+  pub plain : (with_row_if b (risen ch zxid) (tabled t.seats ws)).watches ≡ ws
+  pub watches : vs ≡ swept u.seats ws
+  pub ready : list ≡ newly_ready t.seats u.seats
+  pub lost : count ≡ count_lost u.seats - count_lost t.seats
 
-tables : (b : Bool) (zxid : ℕ) (t : Seating Seat) (ws : List Watch) (u : Seating Seat) (vs : List Watch) (ready : List ℕ) (lost : ℕ)
+pub tables : (b : Bool) (zxid : ℕ) (t : Seating Seat) (ws : List Watch) (u : Seating Seat) (vs : List Watch) (ready : List ℕ) (lost : ℕ)
     → Turns b zxid t ws u vs ready lost → AreKept t.seats ws → ((q : ℕ) → map.get t.sessions q ≡ served_at (map.get t.seats q)) → Tables b zxid t ws u vs ready lost
 unfolding with_row
 tables true zxid t ws u vs ready lost h kept served = record {
@@ -91,7 +91,7 @@ tables false zxid t ws u vs ready lost h kept served =
     }
 
 -- what is swept is kept
-swept_kept : (m : Seats) (ws : List Watch) → AreKept m (swept m ws)
+pub swept_kept : (m : Seats) (ws : List Watch) → AreKept m (swept m ws)
 swept_kept m [] = tt
 swept_kept m (w ∷ ws) = by (keeps_watches (map.get m w.conn)) refl (swept_kept m ws)
   where

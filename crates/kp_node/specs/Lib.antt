@@ -13,9 +13,15 @@ pub mod Hearing
 pub mod Timing
 pub mod Starting
 pub mod Facts
+pub mod Appending
+pub mod Installing
+pub mod Filling
 pub mod Walking
 pub mod Rising
 pub mod Foreseen
 pub mod Ahead
 pub mod Reactions
 pub mod Named
+pub mod Taking
+pub mod Leaving
+pub mod Replacing

@@ -48,8 +48,12 @@ pub(crate) fn look_ahead(
     }
 }
 
-// Looks at the connections where the term may rise.
-fn look_if(alloc: Global, seats: &Seats<Seat>, may_rise: bool) -> Result<Option<Before>, NoMemory>
+/// Looks at the connections where the term may rise.
+pub(crate) fn look_if(
+    alloc: Global,
+    seats: &Seats<Seat>,
+    may_rise: bool,
+) -> Result<Option<Before>, NoMemory>
     ensures { IfOk result (λ b. IsLooked may_rise seats.now.seats b) }
 {
     if !may_rise {

@@ -8,15 +8,21 @@
 
 mod ahead;
 mod answering;
+mod append_events;
+mod appends;
 mod coming;
 mod connect;
 mod deadlines;
 mod entry;
+mod filling;
 mod foreseen;
 mod handing;
 mod hearing;
+mod install_events;
+mod installs;
 mod laws;
 mod named;
+mod leaving;
 mod node;
 mod outcome;
 mod raft_events;

@@ -13,6 +13,7 @@ mod deadlines;
 mod entry;
 mod handing;
 mod hearing;
+mod joining;
 mod laws;
 mod node;
 mod outcome;

@@ -16,6 +16,7 @@ mod hearing;
 mod laws;
 mod node;
 mod outcome;
+mod proposing;
 mod refusing;
 mod said;
 mod serving;

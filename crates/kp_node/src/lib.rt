@@ -17,6 +17,7 @@ mod joining;
 mod laws;
 mod node;
 mod outcome;
+mod proposing;
 mod refusing;
 mod said;
 mod serving;

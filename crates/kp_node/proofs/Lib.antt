@@ -17,3 +17,4 @@ pub mod Deciding
 pub mod Starting
 pub mod Joined
 pub mod Handed
+pub mod HandedOver

@@ -178,9 +178,7 @@ fn join_one(
             Err(none)
         }
         Ok(None) => conn.join(unnumbered(request)),
-        Ok(Some(cmd)) => {
-            join_write(ground, storage, conn, request, cmd, bodies, forwards)
-        }
+        Ok(Some(cmd)) => { join_write(ground, storage, conn, request, cmd, bodies, forwards) }
     }
 }
 

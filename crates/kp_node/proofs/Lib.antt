@@ -15,3 +15,4 @@ pub mod Touched
 pub mod Heard
 pub mod Deciding
 pub mod Starting
+pub mod Changed

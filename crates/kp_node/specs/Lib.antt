@@ -13,3 +13,4 @@ pub mod Hearing
 pub mod Timing
 pub mod Starting
 pub mod Facts
+pub mod Changing

@@ -18,3 +18,4 @@ pub mod Starting
 pub mod Joined
 pub mod Handed
 pub mod HandedOver
+pub mod Changed

@@ -14,3 +14,4 @@ pub mod Timing
 pub mod Starting
 pub mod Facts
 pub mod Proposing
+pub mod Changing

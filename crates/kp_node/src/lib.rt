@@ -7,6 +7,7 @@
 #![tactic(auto)]
 
 mod answering;
+mod changing;
 mod coming;
 mod connect;
 mod deadlines;
@@ -27,6 +28,7 @@ mod telling;
 mod timing;
 mod watched;
 
+pub use changing::found_among;
 pub use connect::{greeting, held_timeout, is_refused, opening, refusal};
 pub use entry::{newcomer, session_of};
 pub use laws::{found_is_kept, hears_on, one_is_all, one_is_changed, parts_serve};

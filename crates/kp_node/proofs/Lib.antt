@@ -19,3 +19,4 @@ pub mod Joined
 pub mod Handed
 pub mod HandedOver
 pub mod Changed
+pub mod Lasting

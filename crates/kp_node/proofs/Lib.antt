@@ -20,3 +20,4 @@ pub mod Handed
 pub mod HandedOver
 pub mod Changed
 pub mod Lasting
+pub mod Took

@@ -15,3 +15,4 @@ pub mod Starting
 pub mod Facts
 pub mod Proposing
 pub mod Changing
+pub mod Taking

@@ -24,6 +24,7 @@ mod said;
 mod serving;
 mod settling;
 mod start;
+mod taking;
 mod telling;
 mod timing;
 mod watched;

@@ -5,8 +5,9 @@ ghost use Rattle.std.specs.List.{list_all};
 ghost use Rattle.kp_model.specs.LogEntry.{LogEntry};
 ghost use Rattle.kp_model.specs.Grammar.{is_body, is_origin, has_numbers as are_numbers};
 ghost use Rattle.kp_model.specs.Store.{Store, last as last_of, with_entry, truncated};
-ghost use Rattle.kp_step.specs.Handing.{Desk, proposed};
-ghost use Rattle.kp_node.specs.Proposing.{AtDesk, Does, proposed_to, wanted};
+ghost use Rattle.kp_raft.specs.Parts.{is_leader};
+ghost use Rattle.kp_step.specs.Handing.{Desk, proposed, proposed_all};
+ghost use Rattle.kp_node.specs.Proposing.{AtDesk, Does, HandedIn, Proposes, proposed_to, taken_of, wanted};
 
 use kp_entry::Records;
 use kp_model::limits::LAST_NUMBER;
@@ -42,6 +43,101 @@ fn is_wanted(storage: &Storage, body: &Body) -> bool
     ensures room { IsTrue result → last_of storage.now < 2 ^ 62 }
 {
     storage.last() < LAST_NUMBER && would_take(&storage.latest(), body)
+}
+
+// All of the bodies are handed in, one behind the other. After an error some of them are.
+fn hand_in_all(
+    storage: &mut Storage,
+    term: u64,
+    now: u64,
+    bodies: Vec<Body>,
+    taken: &mut Vec<Body>,
+) -> Result<(), NoMemory>
+    ensures ok { OnOk result ((first : Store) (d : Desk) → AtDesk first term now storage.old taken.old.items d → AtDesk first term now storage.new taken.new.items (proposed_all term now d bodies.items)) }
+    ensures err { OnErr result ((first : Store) (d : Desk) → AtDesk first term now storage.old taken.old.items d → HandedIn first term now storage.new) }
+{
+    for body in bodies {
+        hand_in(storage, term, now, body, taken)?;
+    }
+    Ok(())
+}
+
+// Whether the member leads.
+fn leads(raft: &Raft<Image>) -> bool
+    ensures { result ≡ is_leader raft.now.vars.role }
+{
+    matches!(raft.role(), Role::Leader)
+}
+
+// Those of the bodies that this member takes, which are handed in. After an error some of them are.
+fn gather(
+    alloc: Global,
+    raft: &Raft<Image>,
+    storage: &mut Storage,
+    now: u64,
+    bodies: Vec<Body>,
+) -> Result<Items<Body>, NoMemory>
+    requires { last_of storage.old ≤ 2 ^ 62 }
+    ensures taken { IfOk result (λ taken. taken ≡ taken_of raft.now storage.old now bodies.items) }
+    ensures desk { IfOk result (λ taken. (d : Desk) × AtDesk storage.old raft.now.held.term now storage.new taken d) }
+    ensures err { OnErr result (HandedIn storage.old raft.now.held.term now storage.new) }
+{
+    let mut taken = Vec::new(alloc);
+    if !leads(raft) {
+        drop(bodies);
+        return Ok(Items::from_vec(taken));
+    }
+    match hand_in_all(storage, raft.term(), now, bodies, &mut taken) {
+        Ok(()) => Ok(Items::from_vec(taken)),
+        Err(none) => {
+            drop(taken);
+            Err(none)
+        }
+    }
+}
+
+// Those of the bodies that this member takes, which are handed in. After an error nothing has changed.
+fn take_wanted(
+    alloc: Global,
+    raft: &Raft<Image>,
+    storage: &mut Storage,
+    now: u64,
+    bodies: Vec<Body>,
+) -> Result<Items<Body>, NoMemory>
+    ensures taken { IfOk result (λ taken. taken ≡ taken_of raft.now storage.old now bodies.items) }
+    ensures desk { IfOk result (λ taken. (d : Desk) × AtDesk storage.old raft.now.held.term now storage.new taken d) }
+    ensures err { OnErr result (storage.new ≡ storage.old) }
+{
+    let last = storage.last();
+    match gather(alloc, raft, storage, now, bodies) {
+        Ok(taken) => Ok(taken),
+        Err(none) => {
+            take_in_back(storage, last);
+            Err(none)
+        }
+    }
+}
+
+// Those of the bodies that this member takes are proposed. After an error nothing has changed.
+pub(crate) fn propose_taken(
+    alloc: Global,
+    raft: &mut Raft<Image>,
+    storage: &mut Storage,
+    now: u64,
+    bodies: Vec<Body>,
+) -> Result<RaftOut<Image>, NoMemory>
+    ensures ok { IfOk result (λ out. Proposes raft.old storage.old now bodies.items out raft.new storage.new) }
+    ensures err { OnErr result ((raft.new ≡ raft.old) × (storage.new ≡ storage.old)) }
+{
+    let last = storage.last();
+    let taken = take_wanted(alloc, raft, storage, now, bodies)?;
+    match propose_all(alloc, raft, now, taken) {
+        Ok(out) => Ok(out),
+        Err(none) => {
+            take_in_back(storage, last);
+            Err(none)
+        }
+    }
 }
 
 // Adds an entry of this body to the storage, and the body to the others. After an error nothing has changed.
@@ -145,7 +241,7 @@ pub(crate) fn propose_all(
     ensures ok { IfOk result (λ out. Does (proposed_to raft.old now bodies) raft.old out raft.new) }
     ensures err { OnErr result (raft.new ≡ raft.old) }
 {
-    if bodies.len() == 0 || !matches!(raft.role(), Role::Leader) {
+    if bodies.len() == 0 || !leads(raft) {
         drop(bodies);
         return Ok(nothing(alloc));
     }

@@ -16,3 +16,4 @@ pub mod Heard
 pub mod Deciding
 pub mod Starting
 pub mod Handed
+pub mod Asked

@@ -1,14 +1,18 @@
 //! Bodies are handed in to a leader, and proposed to Raft.
 
-ghost use Rattle.std.specs.Prelude.{◌≡◌, ◌^◌, ◌<◌, ◌≤◌, ◌∷◌, ◌++◌, [], List, None, IsTrue, IfOk, OnOk, OnErr};
+ghost use Rattle.std.specs.Prelude.{◌≡◌, ◌^◌, ◌<◌, ◌≤◌, ◌∷◌, ◌++◌, [], length, List, None, IsTrue, IfOk, OnOk, OnErr};
 ghost use Rattle.std.specs.List.{list_all};
 ghost use Rattle.kp_model.specs.LogEntry.{LogEntry};
 ghost use Rattle.kp_model.specs.Grammar.{is_body, is_origin, has_numbers as are_numbers};
 ghost use Rattle.kp_model.specs.Store.{Store, last as last_of, with_entry, truncated};
 ghost use Rattle.kp_raft.specs.Parts.{is_leader};
 ghost use Rattle.kp_step.specs.Handing.{Desk, proposed, proposed_all};
-ghost use Rattle.kp_node.specs.Proposing.{AtDesk, Does, HandedIn, Proposes, proposed_to, taken_of, wanted};
+ghost use Rattle.kp_step.specs.Asking.{taken_by};
+ghost use Rattle.kp_node.specs.Parts.{node_of};
+ghost use Rattle.kp_node.specs.Steps.{Reacts};
+ghost use Rattle.kp_node.specs.Proposing.{AtDesk, Does, HandedIn, Proposes, proposed_by, proposed_to, taken_of, wanted};
 
+use crate::node::Node;
 use kp_entry::Records;
 use kp_model::limits::LAST_NUMBER;
 use kp_model::{Body, Entry, Items, NoMemory, Origin, Role, would_take};
@@ -16,6 +20,27 @@ use kp_raft::{Raft, RaftEvent, RaftOut};
 use kp_snapshot::Image;
 use kp_storage::Storage;
 use std::alloc::Global;
+
+impl Node {
+    // Those of the bodies that this member takes are proposed at this time, in milliseconds; their number is given beside
+    // what Raft gave. After an error nothing has changed.
+    pub(crate) fn propose(
+        &mut self,
+        now: u64,
+        bodies: Vec<Body>,
+    ) -> Result<(RaftOut<Image>, u32), NoMemory>
+        requires { self.old.events < 2 ^ 62 }
+        ensures ok { IfOk result (λ r. Reacts (proposed_by (node_of self.old) now bodies.items) None self.old r.0 self.new) }
+        ensures count { IfOk result (λ r. r.1 ≡ length (taken_by (node_of self.old) now bodies.items)) }
+        ensures err { OnErr result (self.new ≡ self.old) }
+    {
+        let _commit = self.raft.commit();
+        let out = propose_taken(self.alloc, &mut self.raft, &mut self.storage, now, bodies)?;
+        self.events += 1;
+        let count = out.added;
+        Ok((out, count))
+    }
+}
 
 // A body is handed in to the leader of this term at this time, in milliseconds: it is taken where the log has room and it
 // isn't too late behind those before it. One whose numbers are beyond their limits is answered want of memory, as one

@@ -21,3 +21,4 @@ pub mod HandedOver
 pub mod Changed
 pub mod Lasting
 pub mod Took
+pub mod Asked

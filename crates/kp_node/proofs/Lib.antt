@@ -26,3 +26,10 @@ pub mod Left
 pub mod Replaced
 pub mod Mild
 pub mod Known
+pub mod Joined
+pub mod Handed
+pub mod HandedOver
+pub mod Changed
+pub mod Lasting
+pub mod Took
+pub mod Asked

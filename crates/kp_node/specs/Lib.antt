@@ -25,3 +25,6 @@ pub mod Named
 pub mod Taking
 pub mod Leaving
 pub mod Replacing
+pub mod Proposing
+pub mod Changing
+pub mod TakingBytes

@@ -1,0 +1,55 @@
+-- A connection takes bytes by its phase.
+use Rattle.std.proofs.Common.{◌≡◌, ℕ, Bool, true, false, List, [], ◌∷◌, ◌++◌, Option, Some, None, refl, ap, sym, subst, ◌∙◌}
+use Rattle.kp_model.specs.Store.{Store}
+use Rattle.kp_raft.specs.Members.{Member}
+use Rattle.kp_watch.specs.declared.watch.Watch.{Watch}
+use Rattle.kp_watch.specs.Watching.{dropped}
+use Rattle.kp_conn.specs.declared.fed.Fed.{Fed}
+use Rattle.kp_conn.specs.declared.phase.Phase.{Phase}
+use Rattle.kp_conn.specs.declared.phase.Phase.TheVariants as phase
+use Rattle.kp_conn.specs.Connection.{Connection, is_lost}
+use Rattle.kp_conn.specs.Fed.{fed, fed_as, IsLive}
+use Rattle.kp_step.specs.Choices.{Luck}
+use Rattle.kp_step.specs.Handing as step
+use Rattle.kp_step.specs.Handing.{Served, served, served_as, serves}
+use Rattle.kp_node.specs.declared.joining.Ground.{Ground}
+use Rattle.kp_node.specs.declared.serving.Handed.{Handed}
+use Rattle.kp_node.specs.Deciding.{kept_watches}
+use Rattle.kp_node.specs.Joining.{ground_in, desk_of}
+use Rattle.kp_node.specs.Proposing.{entries_of}
+use Rattle.kp_node.specs.Serving.{HandsOver, Serves}
+use Rattle.kp_node.specs.TakingBytes.{taken, Takes}
+
+-- a live connection that was fed is one
+fed_as_live : (p : Phase) (c : Connection) (bytes : List ℕ) → c.phase ≡ p → IsLive p → is_lost (fed_as p c bytes).0.phase ≡ false
+fed_as_live phase.Fresh c bytes e l = absurd l
+fed_as_live (phase.Connecting ro) c bytes e l = absurd l
+fed_as_live (phase.Live s f n) c bytes e l = ap is_lost e
+fed_as_live (phase.Closing lost) c bytes e l = absurd l
+
+pub fed_live : (c : Connection) (bytes : List ℕ) (d : Connection × Fed) → fed c bytes ≡ d → IsLive c.phase → is_lost d.0.phase ≡ false
+unfolding fed
+fed_live c bytes d e l = ap (λ (z : Connection × Fed). is_lost z.0.phase) (sym e) ∙ fed_as_live c.phase c bytes refl l
+
+module _ (g : Ground) (k : ℕ) (draw : List ℕ) (text : List ℕ → List ℕ) (bytes : List ℕ) (m n : Member) (x y : Store) (ws ws' : List Watch) (c c' : Connection) (o : Handed) where
+  as_live : (luck : Luck) (p : Phase) (z : Connection × Fed) → IsLive p → served_as (ground_in g x.state) luck k draw text (desk_of x [] []) ws p z.0 z.1 ≡ served (ground_in g x.state) luck k ws z.0 (desk_of x [] []) z.1
+  as_live luck phase.Fresh z l = absurd l
+  as_live luck (phase.Connecting ro) z l = absurd l
+  as_live luck (phase.Live s e i) z l = refl
+  as_live luck (phase.Closing lost) z l = absurd l
+
+  taken_live : (luck : Luck) (mid : Connection) (f : Fed) → fed c bytes ≡ (mid, f) → IsLive c.phase → taken g luck k draw text x ws c bytes ≡ served (ground_in g x.state) luck k ws mid (desk_of x [] []) f
+  unfolding serves
+  taken_live luck mid f e l = as_live luck c.phase (fed c bytes) l ∙ ap (λ (z : Connection × Fed). served (ground_in g x.state) luck k ws z.0 (desk_of x [] []) z.1) e
+
+  pub takes_live : (mid : Connection) (f : Fed) → fed c bytes ≡ (mid, f) → IsLive c.phase → Serves g k f m x ws mid n y ws' c' o → Takes g k draw text bytes m x ws c n y ws' c' o
+  takes_live mid f e l h =
+      let luck = h.served.0 in
+      let same : taken g luck k draw text x ws c bytes ≡ served (ground_in g x.state) luck k ws mid (desk_of x [] []) f = taken_live luck mid f e l in
+      let desk : h.desk ≡ (taken g luck k draw text x ws c bytes).desk = h.served.1.1 ∙ ap (λ (w : Served). w.desk) (sym same) in record {
+        luck = luck;
+        connection = h.served.1.0 ∙ ap (λ (w : Served). w.connection) (sym same);
+        watches = h.served.1.2 ∙ ap (λ (w : Served). kept_watches k c'.phase w.watches) (sym same);
+        over = subst (λ (d : step.Desk). HandsOver g m d.bodies d.forwards o n) desk h.over;
+        store = h.store ∙ ap (λ (d : step.Desk). record x { unapplied = x.unapplied ++ entries_of g.term g.now d.bodies }) desk;
+      }

@@ -16,3 +16,5 @@ pub mod Heard
 pub mod Deciding
 pub mod Starting
 pub mod Changed
+pub mod Fired
+pub mod Meant

@@ -14,3 +14,5 @@ pub mod Timing
 pub mod Starting
 pub mod Facts
 pub mod Changing
+pub mod Firing
+pub mod Meaning

@@ -1,5 +1,5 @@
 -- What holds of the phase of each connection of a table, and of each answer.
-use Rattle.std.proofs.Common.{◌≡◌, ℕ, Bool, true, false, cond, List, [], ◌∷◌, ◌++◌, Option, Some, None, refl, ap, sym, subst}
+use Rattle.std.proofs.Common.{◌≡◌, ℕ, Bool, true, false, cond, List, [], ◌∷◌, ◌++◌, Option, Some, None, refl, sym, subst}
 use Rattle.std.specs.Prelude.{if◌then◌else◌}
 use Rattle.std.specs.Option.{option_map}
 use Rattle.std.specs.List.{AllByRecursion}
@@ -7,28 +7,26 @@ use Rattle.std.specs.Ordering.{nat_cmp, eq_by_cmp}
 use Rattle.std.specs.Cmp.{nat_cmp_total}
 use Rattle.std.specs.FinMap as map
 use Rattle.kp_model.specs.State.{State}
-use Rattle.kp_model.specs.declared.command.Cmd.{Cmd}
-use Rattle.kp_ask.specs.Asks.{command}
 use Rattle.kp_wire.specs.declared.request.Request.{Request}
 use Rattle.kp_wire.specs.declared.reply.WireReply.{WireReply}
 use Rattle.kp_wire.specs.declared.reply.WireReply.TheVariants as sent
 use Rattle.kp_watch.specs.declared.watch.Watch.{Watch}
 use Rattle.kp_conn.specs.declared.phase.Phase.{Phase}
 use Rattle.kp_conn.specs.declared.phase.Phase.TheVariants as phase
-use Rattle.kp_conn.specs.declared.waiting.Mark.{Mark}
 use Rattle.kp_conn.specs.declared.waiting.Waiting.{Waiting}
 use Rattle.kp_conn.specs.Connection.{Connection, closed, put}
 use Rattle.kp_conn.specs.Packets.{reply_packet}
 use Rattle.kp_step.specs.declared.seat.Seat.{Seat}
 use Rattle.kp_step.specs.Choices.{Choices, is_out, less}
 use Rattle.kp_step.specs.Node.{Seats}
-use Rattle.kp_step.specs.Answers.{Answer, Cause, by_state, by_entry, by_lack, by_term, by_move, by_end, code_of, answer_of, answer_by, unmarked, state_answer}
+use Rattle.kp_step.specs.Answers.{Answer, Cause, by_state, by_entry, by_lack, by_term, by_move, by_end, code_of, answer_of}
 use Rattle.kp_step.specs.Settling.{Told, Settled, settled, settled_so, refused, refused_if, telling, told_by, put_answer, with_queue, is_end, session_in}
 use Rattle.kp_step.specs.Handing.{Served}
 use Rattle.kp_step.specs.Tables.{Table, Row, row_at, row_told, with_row, with_served, seated, settled_in, settled_one, settled_all}
 use Rattle.kp_step.specs.Step.{with_row_if}
 use Rattle.kp_step.proofs.Tables.{tied, get-insert, get-mapped}
-use Rattle.kp_step.proofs.Settles.{by_answer, state_cause}
+use Rattle.kp_step.proofs.Causes.{is_plain, plain_is}
+use Rattle.kp_step.proofs.Settles.{by_answer}
 use Rattle.kp_step.proofs.Serves.{choose}
 use Rattle.kp_cluster.proofs.EpochPhases.{Keeps}
 
@@ -115,19 +113,16 @@ is_move by_term = false
 is_move by_move = true
 is_move by_end = false
 
-abbrev FrontStays : Option Answer → Type 0
-FrontStays None = Unit {0}
-FrontStays (Some a) = is_move a.cause ≡ false
-
-front_stays : (s : State) (session k : ℕ) (ws : List Watch) (w : Waiting) (r : Option WireReply) (m : Option Mark) (o : Option Cmd) → FrontStays (answer_by ws r m (unmarked ws o (state_answer s session k ws w.request.ask)))
-front_stays s session k ws w (Some r) m o = refl
-front_stays s session k ws w None (Some m) o = tt
-front_stays s session k ws w None None (Some c) = refl
-front_stays s session k ws w None None None = ap is_move (state_cause s session k ws w.request.ask)
+unmoved : (c : Cause) → is_plain c ≡ true → is_move c ≡ false
+unmoved by_state e = refl
+unmoved by_entry e = refl
+unmoved by_lack e = refl
+unmoved by_term e = refl
+unmoved by_move e = absurd (cc)
+unmoved by_end e = refl
 
 no_move : (s : State) (session k : ℕ) (ws : List Watch) (w : Waiting) (a : Answer) → answer_of s session k ws w ≡ Some a → is_move a.cause ≡ false
-unfolding answer_of
-no_move s session k ws w a e = subst FrontStays e (front_stays s session k ws w w.reply w.mark (command w.request.ask))
+no_move s session k ws w a e = unmoved a.cause (plain_is s session k ws w a e)
 
 -- what holds of a phase holds on, and it says what is asked of answers with this index but of -118
 pub record Suits (P : Phase → Type 0) (T : Told → Type 0) (zxid : ℕ) : Type 0 where

@@ -1,7 +1,6 @@
 -- Small facts about lists, records and maps, and about what comes to a member.
-use Rattle.std.proofs.Common.{◌≡◌, ℕ, zero, suc, ◌≤◌, ◌<◌, max, min, Bool, true, false, cond, ◌&&◌, not, List, [], ◌∷◌, ◌++◌, length, drop, refl, sym, ap, ◌∙◌, subst, arith, length-append, Option, Some, None, slice_get}
+use Rattle.std.proofs.Common.{◌≡◌, ℕ, zero, suc, ◌≤◌, max, min, Bool, true, false, cond, ◌&&◌, not, List, [], ◌∷◌, ◌++◌, length, drop, refl, sym, ap, ◌∙◌, subst, arith, length-append, Option, Some, None, slice_get}
 use Rattle.std.specs.Prelude.{nat_lt, nat_eq, replicate, if◌then◌else◌}
-use Rattle.std.proofs.lemmas.Bool.Decides.{nat_tests}
 use mathlib.Core.Path.{fun_ext}
 use Rattle.kp_model.specs.LogEntry.{LogEntry}
 use Rattle.kp_model.specs.State.{empty}
@@ -26,7 +25,7 @@ use Rattle.kp_world.specs.Book.{Book}
 use Rattle.kp_world.proofs.Invariant.{Invariant}
 use Rattle.kp_world.proofs.LeadersLogs.{leader_in_term}
 use Rattle.kp_world.proofs.Appending.{matched_most}
-use Rattle.kp_world.proofs.Link.{MessageFits, MailFits, MailsFit, cond_cases}
+use Rattle.kp_world.proofs.Link.{MessageFits, cond_cases}
 
 -- one step of the network
 abbrev pub one : {I : Type 0} → net.Step I → Option ℕ → List (net.Event I)

@@ -25,8 +25,9 @@ use Rattle.kp_step.specs.Asking.{Words, Input, idle, asks, appends, reacted, ins
 use Rattle.kp_step.specs.Step.{Turn, Stepped, hears_client, client_turn, drain_turn, commit_turn, turned, mail_of, base_image, applies, together, step}
 use Rattle.kp_step.specs.Runs.{base_behind, done_behind}
 use Rattle.kp_step.proofs.Serves.{choose}
-use Rattle.kp_step.proofs.Turning.{NoneOf, replayed}
-use Rattle.kp_step.proofs.Advances.{NoneUnlessMail, asked_none}
+use Rattle.kp_step.proofs.Turning.{replayed}
+use Rattle.kp_step.proofs.Advances.{asked_none}
+use Rattle.kp_step.proofs.Runs.{none_of}
 use Rattle.kp_world.proofs.Link.{cond_cases}
 use Rattle.kp_cluster.specs.World.{is_own}
 
@@ -70,18 +71,6 @@ module _ {I : Type 0} (words : Words) (im : Images I) (ch : Choices) (x : Node) 
   turned_stays kind.Snapshot = record { me = refl; members = refl }
 
 -- ---- the parts of a step
-
-none_of : {I : Type 0} (words : Words) (im : Images I) (ch : Choices) (x : Node) (now : ℕ) (v : NodeEventKind (Mail I)) → NoneUnlessMail im x words ch now v → NoneOf v (installed x (asked words im ch x now v))
-none_of words im ch x now (kind.Accept draw) n = n
-none_of words im ch x now (kind.Client k bytes) n = n
-none_of words im ch x now (kind.Hangup k) n = n
-none_of words im ch x now (kind.Drain k) n = n
-none_of words im ch x now (kind.Deliver m) n = tt
-none_of words im ch x now kind.Timeout n = n
-none_of words im ch x now kind.Beat n = n
-none_of words im ch x now kind.CommitOne n = n
-none_of words im ch x now kind.ExpireDue n = n
-none_of words im ch x now kind.Snapshot n = n
 
 -- a step, from what Raft makes of its event, the image that it takes and the entry that is applied
 pub record Made {I : Type 0} (im : Images I) (x : Node) (e : Option LogEntry) (out : Outcome I) (taken : Option I) (o : Stepped I) : Type 0 where

@@ -15,6 +15,10 @@ pub mod Touched
 pub mod Heard
 pub mod Deciding
 pub mod Starting
+pub mod Joined
+pub mod Handed
+pub mod HandedOver
 pub mod Changed
 pub mod Fired
 pub mod Meant
+pub mod Lasting

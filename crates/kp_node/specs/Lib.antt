@@ -13,6 +13,7 @@ pub mod Hearing
 pub mod Timing
 pub mod Starting
 pub mod Facts
+pub mod Proposing
 pub mod Changing
 pub mod Firing
 pub mod Meaning

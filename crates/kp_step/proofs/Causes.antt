@@ -59,7 +59,7 @@ all_append P (t ∷ ts) us h k = (h.0, all_append P ts us h.1 k)
 
 -- ---- what is answered from the front is no refusal
 
-abbrev is_plain : Cause → Bool
+abbrev pub is_plain : Cause → Bool
 is_plain by_state = true
 is_plain by_entry = true
 is_plain by_lack = true
@@ -83,7 +83,7 @@ front_plain s session k ws w None (Some m) o = tt
 front_plain s session k ws w None None (Some c) = refl
 front_plain s session k ws w None None None = ap is_plain (state_cause s session k ws w.request.ask)
 
-plain_is : (s : State) (session k : ℕ) (ws : List Watch) (w : Waiting) (a : Answer) → answer_of s session k ws w ≡ Some a → is_plain a.cause ≡ true
+pub plain_is : (s : State) (session k : ℕ) (ws : List Watch) (w : Waiting) (a : Answer) → answer_of s session k ws w ≡ Some a → is_plain a.cause ≡ true
 unfolding answer_of
 plain_is s session k ws w a e = subst FrontPlain e (front_plain s session k ws w w.reply w.mark (command w.request.ask))
 

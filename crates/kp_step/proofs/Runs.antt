@@ -163,7 +163,7 @@ module _ {I : Type 0} (words : Words) (im : Images I) (ch : Choices) (r : Run) (
   turned_rise v up k = falls_append 0 r.node.state.applied (Turned v).node.state.applied (r.told k) ((Turned v).told k) (h.rise k)
       (falls_at r.node.state.applied (state_at r.node (applies r.node v)).applied (Turned v).node.state.applied ((Turned v).told k) up.from up.to (index_told (state_at r.node (applies r.node v)) k ((Turned v).told k) (turned_tells v k)))
 
-none_of : {I : Type 0} (words : Words) (im : Images I) (ch : Choices) (x : Node) (now : ℕ) (v : NodeEventKind (Mail I)) → NoneUnlessMail im x words ch now v → NoneOf v (installed x (asked words im ch x now v))
+pub none_of : {I : Type 0} (words : Words) (im : Images I) (ch : Choices) (x : Node) (now : ℕ) (v : NodeEventKind (Mail I)) → NoneUnlessMail im x words ch now v → NoneOf v (installed x (asked words im ch x now v))
 none_of words im ch x now (kind.Accept draw) n = n
 none_of words im ch x now (kind.Client k bytes) n = n
 none_of words im ch x now (kind.Hangup k) n = n

@@ -1,7 +1,11 @@
 -- A connection that comes or goes, or takes what is ready for it, makes the step.
-use Rattle.std.proofs.Common.{◌≡◌, ℕ, ◌+◌, ◌-◌, ◌<◌, ◌^◌, Bool, true, false, cond, not, ◌&&◌, ◌||◌, List, [], ◌∷◌, Option, Some, None, is_some, refl, ap, sym, subst, ◌∙◌, arith}
+use Rattle.std.proofs.Common.{◌≡◌, ℕ, ◌+◌, ◌-◌, ◌≤◌, ◌<◌, ◌^◌, Bool, true, false, cond, not, ◌&&◌, ◌||◌, List, [], ◌∷◌, length, Option, Some, None, is_some, refl, ap, sym, subst, ◌∙◌, arith}
 use Rattle.std.specs.Prelude.{nat_eq}
+use Rattle.std.specs.List.{filter}
+use Rattle.std.specs.Ordering.{nat_cmp}
 use Rattle.std.specs.FinMap as map
+use Rattle.std.specs.FinMap.{FinMap}
+use Rattle.kp_raft.specs.Parts.{nothing}
 use Rattle.kp_event.specs.declared.event.NodeEventKind.TheVariants as kind
 use Rattle.kp_event.specs.declared.said.Said.TheVariants as says
 use Rattle.kp_watch.specs.declared.watch.Watch.{Watch}
@@ -12,19 +16,19 @@ use Rattle.kp_conn.specs.declared.fed.OutPiece as conn
 use Rattle.kp_conn.specs.Connection.{Connection, out_piece, blank, drained, is_over, is_lost}
 use Rattle.kp_step.specs.declared.seat.Seat.{Seat}
 use Rattle.kp_step.specs.Choices.{Choices}
-use Rattle.kp_step.specs.Node.{Seats}
+use Rattle.kp_step.specs.Node.{Node, Seats}
 use Rattle.kp_step.specs.Tables.{seated}
 use Rattle.kp_step.specs.Runs.{IsResting}
 use Rattle.std.specs.Option.{option_map}
 use Rattle.std.specs.Prelude.{if◌then◌else◌}
 use Rattle.kp_event.specs.declared.said.OutPiece.{OutPiece}
 use Rattle.kp_seats.specs.Seating.{Seating, accepted, removed, holding}
-use Rattle.kp_step.specs.Step.{piece_of, accept_turn, hangup_turn, drain_turn, standing_of, keeps_watches, count_lost, is_ready, newly_ready, together, turn, Turn, Stepped}
+use Rattle.kp_step.specs.Step.{piece_of, accept_turn, hangup_turn, drain_turn, standing_of, keeps_watches, swept, count_lost, is_ready, newly_ready, together, node_behind, turn, Turn, Stepped}
 use Rattle.kp_node.specs.Parts.{Parts, node_of}
 use Rattle.kp_node.specs.Holding.{Holds, AreKept, served_at}
-use Rattle.kp_node.specs.Steps.{Steps, aside, quietly}
+use Rattle.kp_node.specs.Steps.{images, IsStep, Steps, aside, quietly}
 use Rattle.kp_node.specs.Coming.{come, gone, emptied_seating, drained_seating, drained_watches, drained_at}
-use Rattle.kp_node.proofs.Maps.{no, filter_none, count_new, count_taken, count_changed, get-put, get-taken, same, same_number, all_put, all_taken, served_put, served_taken, kept_all, kept_put, kept_taken, swept_taken}
+use Rattle.kp_node.proofs.Maps.{no, filter_none, one_if, count, count_new, count_taken, count_changed, get-put, get-taken, same, same_number, all_put, all_taken, served_put, served_taken, kept_all, kept_put, kept_taken, swept_taken}
 
 abbrev lost : Seat → Bool
 lost s = is_lost s.connection.phase

@@ -1,6 +1,6 @@
 -- What is decided of a request is its answer.
 use Rattle.std.specs.Prelude.{Result, Ok, Err, IfOk, OnErr}
-use Rattle.std.proofs.Common.{◌≡◌, ℕ, true, false, List, [], ◌∷◌, map, Option, Some, None, is_some, refl, ap, sym, subst, ◌∙◌}
+use Rattle.std.proofs.Common.{◌≡◌, ℕ, Bool, true, false, List, [], ◌∷◌, map, Option, Some, None, is_some, refl, ap, sym, subst, ◌∙◌}
 use Rattle.kp_model.specs.declared.command.Cmd.{Cmd}
 use Rattle.kp_model.specs.declared.reply.Event.{Event}
 use Rattle.kp_model.specs.State.{State}

@@ -1,5 +1,5 @@
 -- One event is heard, and then those behind it.
-use Rattle.std.proofs.Common.{◌≡◌, ℕ, zero, Bool, true, false, List, ◌∷◌, Option, Some, None, refl, ap, sym, ◌∙◌}
+use Rattle.std.proofs.Common.{◌≡◌, ℕ, zero, suc, Bool, true, false, List, [], ◌∷◌, Option, Some, None, refl, ap, sym, ◌∙◌}
 use Rattle.std.specs.Prelude.{if◌then◌else◌}
 use Rattle.kp_model.specs.declared.reply.Event.{Event}
 use Rattle.kp_watch.specs.declared.watch.Watch.{Watch}
@@ -8,7 +8,7 @@ use Rattle.kp_conn.specs.Connection.{Connection, closed, put, is_over}
 use Rattle.kp_conn.specs.Packets.{event_packet}
 use Rattle.kp_step.specs.Settling.{given_out}
 use Rattle.kp_node.specs.Deciding.{one_more}
-use Rattle.kp_node.specs.Hearing.{IsHeard, heard_with, HearsOn}
+use Rattle.kp_node.specs.Hearing.{heard_one, watches_behind, IsHeard, heard_with, HearsOn}
 
 module _ (p : List ℕ) (ps : List (List ℕ)) (c : Connection) where
   goes : (n : Option ℕ) → given_out (one_more n) (p ∷ ps) c ≡ given_out n ps (put p c)

@@ -1,12 +1,13 @@
 -- The watches that an answer brings are those of its connection.
-use Rattle.std.proofs.Common.{◌≡◌, ℕ, Bool, true, false, cond, not, nat_eq, ◌&&◌, List, [], ◌∷◌, ◌++◌, Option, Some, None, is_some, refl, ap, sym, ◌∙◌, append-nil}
+use Rattle.std.proofs.Common.{◌≡◌, ℕ, Bool, true, false, cond, not, nat_eq, ◌&&◌, List, [], ◌∷◌, ◌++◌, map, Option, Some, None, is_some, refl, ap, sym, ◌∙◌, append-nil}
 use Rattle.std.specs.Prelude.{if◌then◌else◌}
-use Rattle.std.specs.List.{list_any}
+use Rattle.std.specs.List.{filter, list_any}
 use Rattle.std.proofs.lemmas.List.Elements.{filter-append}
 use Rattle.std.specs.Cmp.{nat_eq_equiv}
 use Rattle.kp_model.specs.State.{State, Nodes, meta_at}
 use Rattle.kp_model.specs.declared.command.Cmd.{Cmd}
 use Rattle.kp_model.specs.declared.read.ReadCmd.{ReadCmd}
+use Rattle.kp_model.specs.declared.read.ReadReply.{ReadReply}
 use Rattle.kp_model.specs.declared.reply.Event.{Event}
 use Rattle.kp_model.specs.Reads.{read_answer}
 use Rattle.kp_ask.specs.Asks.{command, question, wants_watch}
@@ -19,7 +20,7 @@ use Rattle.kp_watch.specs.declared.watch.Watch.{Watch}
 use Rattle.kp_watch.specs.Watching.{Firing, is_of, same_watch, added, dropped, line_kind, owed, set_one, set_line, set_again}
 use Rattle.kp_conn.specs.declared.waiting.Mark.{Mark}
 use Rattle.kp_conn.specs.declared.waiting.Waiting.{Waiting}
-use Rattle.kp_step.specs.Answers.{Answer, lets_watch, other_answer, look_answer, state_answer, unmarked, answer_by, answer_of}
+use Rattle.kp_step.specs.Answers.{Answer, watching_by, lets_watch, other_answer, look_answer, state_answer, unmarked, answer_by, answer_of}
 use Rattle.kp_step.proofs.Tables.{no}
 
 -- one more of the connection changes nothing of the others

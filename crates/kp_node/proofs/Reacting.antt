@@ -1,21 +1,22 @@
 -- What Raft did, and nothing else, makes the step.
-use Rattle.std.proofs.Common.{◌≡◌, ℕ, ◌+◌, ◌-◌, ◌≤◌, ◌<◌, ◌^◌, Bool, true, false, not, ◌&&◌, [], Option, None, refl, ap, sym, subst, ◌∙◌, arith, append-nil}
+use Rattle.std.proofs.Common.{◌≡◌, ℕ, ◌+◌, ◌-◌, ◌≤◌, ◌<◌, ◌^◌, Bool, true, false, cond, not, ◌&&◌, List, [], ◌∷◌, ◌++◌, length, Option, Some, None, refl, ap, sym, subst, ◌∙◌, arith, append-nil}
 use Rattle.std.specs.Prelude.{map}
 use Rattle.std.specs.FinMap as map
 use Rattle.kp_entry.specs.Log.{behind}
-use Rattle.kp_entry.specs.Held.{replay}
+use Rattle.kp_entry.specs.Held.{Held, replay}
 use Rattle.kp_raft.specs.declared.event.RaftOut.{RaftOut}
 use Rattle.kp_raft.specs.declared.mail.Mail.{Mail}
-use Rattle.kp_raft.specs.Members.{Member, Steps as RaftSteps}
+use Rattle.kp_raft.specs.Members.{Member, running_of, Steps as RaftSteps}
 use Rattle.kp_raft.specs.Parts as raft
 use Rattle.kp_event.specs.declared.event.NodeEventKind.{NodeEventKind}
+use Rattle.kp_event.specs.declared.event.NodeEventKind.TheVariants as kind
 use Rattle.kp_event.specs.declared.said.Said.{Said}
 use Rattle.kp_snapshot.specs.Snapshots.{Snapshot}
 use Rattle.kp_watch.specs.declared.watch.Watch.{Watch}
 use Rattle.kp_step.specs.Choices.{Choices}
-use Rattle.kp_step.specs.Node.{Seats}
+use Rattle.kp_step.specs.Node.{Node, Seats}
 use Rattle.kp_step.specs.Asking.{cut_of}
-use Rattle.kp_step.specs.Step.{together, turn, standing_of, count_lost, is_ready, newly_ready, base_image, filled, keeps_watches}
+use Rattle.kp_step.specs.Step.{together, turn, standing_of, swept, count_lost, is_ready, newly_ready, base_image, filled, keeps_watches}
 use Rattle.kp_node.specs.Parts.{Parts, node_of}
 use Rattle.kp_node.specs.Holding.{Holds}
 use Rattle.kp_node.specs.Steps.{images, Steps, Reacts, given_behind}

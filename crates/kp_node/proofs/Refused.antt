@@ -1,5 +1,5 @@
 -- Refusing the front, and then what is behind it.
-use Rattle.std.proofs.Common.{◌≡◌, ◌+◌, ◌<◌, ℕ, zero, Bool, true, false, List, [], ◌∷◌, length, Option, Some, None, refl, ap, sym, ◌∙◌, arith}
+use Rattle.std.proofs.Common.{◌≡◌, ◌+◌, ◌<◌, ℕ, zero, suc, Bool, true, false, List, [], ◌∷◌, ◌++◌, length, Option, Some, None, refl, ap, sym, ◌∙◌, arith}
 use Rattle.std.specs.Prelude.{if◌then◌else◌}
 use Rattle.kp_wire.specs.declared.reply.WireReply.{WireReply}
 use Rattle.kp_wire.specs.declared.reply.WireReply.TheVariants as sent
@@ -8,7 +8,7 @@ use Rattle.kp_conn.specs.Connection.{Connection, closed, put, answered, answered
 use Rattle.kp_conn.specs.Packets.{reply_packet}
 use Rattle.kp_step.specs.Choices.{is_out, less}
 use Rattle.kp_step.specs.Answers.{Cause, code_of}
-use Rattle.kp_step.specs.Settling.{Settled, refused, settled_so}
+use Rattle.kp_step.specs.Settling.{Settled, refused, settled_so, told_by, telling}
 use Rattle.kp_node.specs.Deciding.{one_more}
 use Rattle.kp_node.specs.Refusing.{refused_with, IsRefused, RefusesOn}
 

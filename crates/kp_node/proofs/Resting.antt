@@ -9,11 +9,11 @@ use Rattle.kp_wire.specs.declared.reply.WireReply.{WireReply}
 use Rattle.kp_watch.specs.declared.watch.Watch.{Watch}
 use Rattle.kp_conn.specs.declared.waiting.Mark.{Mark}
 use Rattle.kp_conn.specs.declared.waiting.Waiting.{Waiting}
-use Rattle.kp_conn.specs.Connection.{Connection}
+use Rattle.kp_conn.specs.Connection.{Connection, closed}
 use Rattle.kp_step.specs.declared.seat.Seat.{Seat}
-use Rattle.kp_step.specs.Choices.{Choices}
+use Rattle.kp_step.specs.Choices.{Choices, is_out, less}
 use Rattle.kp_step.specs.Answers.{Answer, answer_by, answer_of}
-use Rattle.kp_step.specs.Settling.{Told, Settled, settled, settled_so, settled_by, with_queue, is_at_rest}
+use Rattle.kp_step.specs.Settling.{Told, Settled, settled, settled_so, settled_by, with_queue, put_answer, is_at_rest}
 use Rattle.kp_step.specs.Tables.{Table, more_at, seated, settled_in, settled_one, settled_all}
 use Rattle.kp_step.proofs.Tables.{no, tied, get-insert, insert-same}
 use Rattle.kp_step.proofs.Settles.{settled-rests}

@@ -1,7 +1,7 @@
 -- A leader's messages, and the image that its log becomes.
-use Rattle.std.proofs.Common.{◌≡◌, ℕ, suc, zero, ◌+◌, ◌-◌, ◌≤◌, ◌<◌, ◌^◌, Bool, true, false, cond, not, ◌&&◌, nat_eq, nat_le, nat_lt, List, [], ◌∷◌, ◌++◌, length, Option, Some, None, refl, ap, sym, subst, ◌∙◌, arith, length-append}
+use Rattle.std.proofs.Common.{◌≡◌, ℕ, suc, zero, ◌+◌, ◌-◌, ◌≤◌, ◌<◌, ◌^◌, Bool, true, false, cond, not, ◌&&◌, nat_eq, nat_le, nat_lt, List, [], ◌∷◌, ◌++◌, length, Option, Some, None, refl, ap, sym, subst, ◌∙◌, arith, append-nil, length-append}
 use Rattle.std.proofs.lemmas.Bool.Decides.{nat_tests}
-use Rattle.std.specs.Prelude.{map, slice_get, replicate, drop, if◌then◌else◌}
+use Rattle.std.specs.Prelude.{map, slice_get, replicate, drop, take, if◌then◌else◌}
 use Rattle.kp_entry.specs.declared.record.Record.{Record}
 use Rattle.kp_entry.specs.declared.record.Record.TheVariants as record_
 use Rattle.kp_entry.specs.Log.{Log, behind, term_of, term_at, has_index, last_index, rebased}
@@ -10,6 +10,7 @@ use Rattle.kp_model.specs.Majority.{count}
 use Rattle.kp_raft.specs.declared.event.RaftOut.{RaftOut}
 use Rattle.kp_raft.specs.declared.event.RaftEvent.TheVariants as asked
 use Rattle.kp_raft.specs.Steps.{react}
+use Rattle.kp_raft.specs.declared.mail.Mail.{Mail}
 use Rattle.kp_raft.specs.declared.mail.Mail.TheVariants as mail
 use Rattle.kp_raft.specs.Numbers.{for_peers}
 use Rattle.kp_raft.specs.Appends.{lags, append_for, install_with, beat_for, lagging}

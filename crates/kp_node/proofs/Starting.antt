@@ -1,10 +1,12 @@
 -- A node that was just started holds together, and is the one of the definition.
-use Rattle.std.proofs.Common.{◌≡◌, ℕ, ◌-◌, ◌≤◌, List, [], refl, ap, sym, subst, ◌∙◌, arith}
+use Rattle.std.proofs.Common.{◌≡◌, ℕ, ◌+◌, ◌-◌, ◌≤◌, ◌<◌, ◌^◌, ◌==◌, ◌||◌, Bool, true, false, List, [], Option, Some, None, refl, ap, sym, subst, ◌∙◌, arith}
 use Rattle.std.proofs.lemmas.Bool.Decides.{nat_tests}
 use Rattle.std.specs.Prelude.{drop, IsTrue}
 use Rattle.std.specs.Ordering.{nat_cmp}
+use Rattle.std.specs.FinMap as map
 use Rattle.std.specs.FinMap.{FinMap, get-empty}
 use Rattle.kp_model.specs.Store.{Store}
+use Rattle.kp_entry.specs.Log.{behind}
 use Rattle.kp_raft.specs.Members.{Member, Begins, is_cluster}
 use Rattle.kp_expiry.specs.declared.heard.Heard.{Heard}
 use Rattle.kp_seats.specs.Seating.{Seating, nobody}
@@ -13,7 +15,7 @@ use Rattle.kp_step.specs.declared.seat.Seat.{Seat}
 use Rattle.kp_step.specs.Runs.{IsResting, begun}
 use Rattle.kp_step.specs.Step.{all_heard}
 use Rattle.kp_node.specs.declared.start.Stored.{Stored}
-use Rattle.kp_node.specs.Parts.{Parts, parts}
+use Rattle.kp_node.specs.Parts.{Parts, parts, node_of}
 use Rattle.kp_node.specs.Holding.{Holds, served_at}
 use Rattle.kp_node.specs.Starting.{state_in, held_in, Starts}
 

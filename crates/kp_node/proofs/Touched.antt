@@ -18,7 +18,7 @@ use Rattle.kp_step.specs.Node.{Seats}
 use Rattle.kp_step.specs.Answers.{Cause, by_end, by_move}
 use Rattle.kp_step.specs.Settling.{Settled, stays, refused, refused_if}
 use Rattle.kp_step.specs.Tables.{Row, row_at, mapped, seated}
-use Rattle.kp_step.specs.Committing.{is_of, replied_to, attached_to, applied_to, meaning}
+use Rattle.kp_step.specs.Committing.{is_of, is_in, replied_to, attached_to, applied_to, written_to, meaning}
 use Rattle.kp_step.proofs.Tables.{tied, get-insert, get-mapped, same}
 use Rattle.kp_node.specs.Touching.{concerns, OthersStay, ChangesAlone, ChangesNone, OneIsChanged, NoneIsChanged}
 

@@ -1,5 +1,5 @@
 -- One turn of settling, and what turns make together.
-use Rattle.std.proofs.Common.{◌≡◌, ◌+◌, ℕ, zero, suc, Bool, true, false, List, [], ◌∷◌, ◌++◌, length, drop, map, slice_get, Option, Some, None, is_some, refl, ap, sym, subst, ◌∙◌, append_assoc, arith}
+use Rattle.std.proofs.Common.{◌≡◌, ◌+◌, ◌-◌, ℕ, zero, suc, Bool, true, false, cond, not, ◌&&◌, List, [], ◌∷◌, ◌++◌, length, drop, map, slice_get, Option, Some, None, is_some, refl, ap, sym, subst, ◌∙◌, append_assoc, arith}
 use Rattle.std.specs.Prelude.{if◌then◌else◌}
 use Rattle.kp_model.specs.State.{State}
 use Rattle.kp_model.specs.declared.reply.Event.{Event}
@@ -19,7 +19,7 @@ use Rattle.kp_node.specs.declared.answering.Decision.{Decision}
 use Rattle.kp_node.specs.declared.answering.Decision.TheVariants as decisions
 use Rattle.kp_node.specs.declared.settling.Turn.{Turn}
 use Rattle.kp_node.specs.declared.settling.Turn.TheVariants as turns
-use Rattle.kp_node.specs.Deciding.{Decides, left_by, settled_with, one_more, TurnsTo, LeadsOn, kept_watches, IsSettled, with_events, is_waits, let_out, Answered}
+use Rattle.kp_node.specs.Deciding.{IsAnswer, Decides, left_by, settled_with, one_more, TurnsTo, LeadsOn, kept_watches, IsSettled, with_events, is_waits, let_out, Answered}
 use Rattle.kp_node.proofs.Owned.{answer-own}
 
 -- ---- the front of a queue

@@ -9,7 +9,7 @@ use Rattle.kp_conn.specs.declared.phase.Phase.{Phase}
 use Rattle.kp_conn.specs.declared.waiting.Waiting.{Waiting}
 use Rattle.kp_conn.specs.Connection.{Connection, answered, answered_kept, closed, is_lost}
 use Rattle.kp_conn.specs.Packets.{event_packet}
-use Rattle.kp_step.specs.Answers.{Answer}
+use Rattle.kp_step.specs.Answers.{Answer, answer_of}
 use Rattle.kp_step.specs.Settling.{Settled, settled}
 use Rattle.kp_node.specs.declared.answering.Decision.{Decision}
 use Rattle.kp_node.specs.declared.answering.Decision.TheVariants as decisions

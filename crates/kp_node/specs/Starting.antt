@@ -1,6 +1,7 @@
 -- A node that was just started with what it kept.
 use Rattle.std.specs.Prelude.{◌≡◌, ℕ, Option, Some, None}
 use Rattle.kp_model.specs.State.{State, empty}
+use Rattle.kp_entry.specs.Log.{Log}
 use Rattle.kp_entry.specs.Held.{Held}
 use Rattle.kp_snapshot.specs.Snapshots.{Snapshot}
 use Rattle.kp_step.specs.Runs.{begun}

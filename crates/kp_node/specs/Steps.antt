@@ -1,5 +1,5 @@
 -- What an event makes of a node, and what it gives: a step of the definition.
-use Rattle.std.specs.Prelude.{◌≡◌, ◌+◌, [], Option, None}
+use Rattle.std.specs.Prelude.{◌≡◌, ℕ, ◌+◌, List, [], Option, None}
 use Rattle.kp_raft.specs.declared.mail.Mail.{Mail}
 use Rattle.kp_entry.specs.Held.{replay}
 use Rattle.kp_raft.specs.declared.event.RaftOut.{RaftOut}

@@ -1,5 +1,5 @@
 -- A leader sends its followers what they lack, and a log becomes an image.
-use Rattle.std.specs.Prelude.{nat_le, length, replicate, Option, Some, None, if◌then◌else◌}
+use Rattle.std.specs.Prelude.{ℕ, nat_le, length, replicate, Option, Some, None, if◌then◌else◌}
 use Rattle.kp_entry.specs.Held.{replay}
 use Rattle.kp_raft.specs.declared.event.RaftOut.{RaftOut}
 use Rattle.kp_raft.specs.declared.event.RaftEvent.TheVariants as asked

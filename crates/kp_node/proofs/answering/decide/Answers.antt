@@ -1,5 +1,5 @@
 -- Each way out is a lemma over what waits and what it keeps.
-use Rattle.std.proofs.Common.{sym, subst, ◌∙◌}
+use Rattle.std.proofs.Common.{sym, subst, ◌∙◌, refl}
 use Rattle.kp_step.specs.Answers.{answer_of}
 use Rattle.kp_node.specs.Deciding.{Decides}
 use Rattle.kp_node.proofs.Deciding.{keeps, waits, refuses, tail_ok, tail_err}

@@ -1,4 +1,4 @@
-use Rattle.std.proofs.Common.{take, ◌∙◌, arith}
+use Rattle.std.proofs.Common.{take, length, ◌<◌, ◌≤◌, ◌∙◌, arith}
 use Rattle.kp_node.proofs.Putting.{back_all, put_none, put_more, put_all, so_many}
 use Rattle.kp_node.proofs.settling.put_events.Goals as goal
 

@@ -1,5 +1,5 @@
 -- Each exit is a lemma on luck.
-use Rattle.std.proofs.Common.{arith, ◌≡◌, length, zero, refl, ap, ◌∙◌}
+use Rattle.std.proofs.Common.{arith, ◌≡◌, ◌+◌, length, zero, refl, ap, ◌∙◌}
 use Rattle.kp_conn.specs.Connection.{is_lost}
 use Rattle.kp_node.proofs.Turning.{luck_stays, luck_ends, luck_lost, luck_goes, luck_over, luck_first, one_less}
 use Rattle.kp_node.proofs.settling.settle.Goals as goal

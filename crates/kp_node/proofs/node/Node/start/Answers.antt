@@ -1,4 +1,4 @@
-use Rattle.kp_node.proofs.Starting.{start_holds_so}
+use Rattle.kp_node.proofs.Starting.{start_holds_so, start_so_of}
 use Rattle.kp_node.proofs.node.Node.start.Goals as goal
 
 pub invariant_of-result : goal.invariant_of-result

@@ -22,3 +22,5 @@ pub mod Changed
 pub mod Fired
 pub mod Meant
 pub mod Lasting
+pub mod Meanings
+pub mod Informed

@@ -17,3 +17,4 @@ pub mod Proposing
 pub mod Changing
 pub mod Firing
 pub mod Meaning
+pub mod Informing

@@ -8,12 +8,19 @@ use Rattle.kp_wire.specs.declared.reply.WireReply.{WireReply}
 use Rattle.kp_wire.specs.declared.reply.WireReply.TheVariants as sent
 use Rattle.kp_step.specs.declared.seat.Seat.{Seat}
 use Rattle.kp_step.specs.Node.{Seats}
-use Rattle.kp_step.specs.Answers.{Cause, code_of}
+use Rattle.kp_step.specs.Answers.{Cause, by_move, by_end, code_of}
 use Rattle.kp_step.specs.Settling.{refused_if}
 use Rattle.kp_step.specs.Tables.{seated}
 use Rattle.kp_step.specs.Committing.{is_of, is_in}
 use Rattle.kp_node.specs.Holding.{served_at}
 use Rattle.kp_node.specs.Telling.{replied_by}
+
+-- the reply to what waits where the session was taken over, and where it expired
+abbrev pub moved : WireReply
+moved = sent.Err (code_of by_move)
+
+abbrev pub expired : WireReply
+expired = sent.Err (code_of by_end)
 
 -- each live connection is in the index of sessions; a connection that is over may be there still
 abbrev pub IsIndexed : Seating Seat → Type 0

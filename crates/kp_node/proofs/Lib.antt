@@ -24,3 +24,4 @@ pub mod Meant
 pub mod Lasting
 pub mod Meanings
 pub mod Informed
+pub mod Behind

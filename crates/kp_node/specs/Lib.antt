@@ -18,3 +18,4 @@ pub mod Changing
 pub mod Firing
 pub mod Meaning
 pub mod Informing
+pub mod Welcoming

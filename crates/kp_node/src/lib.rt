@@ -30,6 +30,7 @@ mod start;
 mod telling;
 mod timing;
 mod watched;
+mod welcoming;
 
 pub use changing::found_among;
 pub use connect::{greeting, held_timeout, is_refused, opening, refusal};
@@ -40,4 +41,5 @@ pub use node::Node;
 pub use outcome::Outcome;
 pub use said::{fed_word, piece};
 pub use start::Stored;
+pub use welcoming::{Welcome, welcome_is_behind};
 pub use watched::{kind_of, lets_watch};

@@ -39,8 +39,8 @@ module _ (s : State) where
   unfolding opened
   open_known timeout passwd o = either s.sessions (body.OpenSession timeout passwd o) (is_held s.sessions o || nat_le 4611686018427387904 s.next) _ _ (refl, λ now h. refl)
       (ap (welcome_in (Some s.next)) (sym own), λ now h. ap (λ x. hear_in now s.next x h) (sym own)) where
-    own : map.get (map.insert s.sessions s.next (new_session timeout passwd o)) s.next ≡ Some (new_session timeout passwd o)
-    own = get-own s.sessions s.next (new_session timeout passwd o)
+        own : map.get (map.insert s.sessions s.next (new_session timeout passwd o)) s.next ≡ Some (new_session timeout passwd o)
+        own = get-own s.sessions s.next (new_session timeout passwd o)
 
   module _ (session : ℕ) (passwd : List ℕ) (o : Origin) where
     abbrev b : Body
@@ -56,9 +56,10 @@ module _ (s : State) where
     own x = get-own s.sessions session (after x)
 
     joined_known : (x : Session) → map.get s.sessions session ≡ Some x → Known s.sessions b (joined x s session o)
-    joined_known x there = either s.sessions b (is_held s.sessions o || nat_le 4611686018427387904 x.epoch) _ _ (refl, λ now h. refl)
-        (ap (taken_over session (x.epoch + 1)) there ∙ ap (welcome_in (Some session)) (sym (own x)),
-        λ now h. ap (λ y. heard_of now (taken_over session (x.epoch + 1) y) h) there ∙ ap (λ y. hear_in now session y h) (sym (own x)))
+    joined_known x there = either s.sessions b (is_held s.sessions o || nat_le 4611686018427387904 x.epoch) _ _ (refl, λ now h. refl) (
+      ap (taken_over session (x.epoch + 1)) there ∙ ap (welcome_in (Some session)) (sym (own x)),
+      λ now h. ap (λ y. heard_of now (taken_over session (x.epoch + 1) y) h) there ∙ ap (λ y. hear_in now session y h) (sym (own x)),
+    )
 
     attach_known : (x : Option Session) → map.get s.sessions session ≡ x → Known s.sessions b (attached_to x s session passwd o)
     attach_known None there = err_known

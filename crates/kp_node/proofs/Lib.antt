@@ -25,3 +25,4 @@ pub mod Lasting
 pub mod Meanings
 pub mod Informed
 pub mod Behind
+pub mod Concerns

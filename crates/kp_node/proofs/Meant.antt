@@ -29,7 +29,7 @@ of_served session (phase.Connecting ro) h = no false refl h
 of_served session (phase.Live s e n) h = ap Some (same_number s session h)
 of_served session (phase.Closing lost) h = no false refl h
 
-in_of : (session epoch : ℕ) (p : Phase) → is_of session p ≡ false → is_in session epoch p ≡ false
+pub in_of : (session epoch : ℕ) (p : Phase) → is_of session p ≡ false → is_in session epoch p ≡ false
 in_of session epoch phase.Fresh h = refl
 in_of session epoch (phase.Connecting ro) h = refl
 in_of session epoch (phase.Live s e n) h = ap (λ b. b && e == epoch) h

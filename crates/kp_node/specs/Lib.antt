@@ -19,3 +19,4 @@ pub mod Firing
 pub mod Meaning
 pub mod Informing
 pub mod Welcoming
+pub mod Concerned

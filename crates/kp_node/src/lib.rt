@@ -9,6 +9,7 @@
 mod answering;
 mod changing;
 mod coming;
+mod concerned;
 mod connect;
 mod deadlines;
 mod entry;
@@ -33,6 +34,7 @@ mod watched;
 mod welcoming;
 
 pub use changing::found_among;
+pub use concerned::informed_changes;
 pub use connect::{greeting, held_timeout, is_refused, opening, refusal};
 pub use entry::{newcomer, session_of};
 pub use informing::informed_is_defined;
@@ -41,5 +43,5 @@ pub use node::Node;
 pub use outcome::Outcome;
 pub use said::{fed_word, piece};
 pub use start::Stored;
-pub use welcoming::{Welcome, welcome_is_behind};
 pub use watched::{kind_of, lets_watch};
+pub use welcoming::{Welcome, welcome_is_behind};

@@ -51,7 +51,9 @@ pub(crate) fn welcome_for(storage: &Storage, body: &Body, reply: &Reply) -> Opti
 {
     match body {
         Body::OpenSession {
-            timeout, passwd, ..
+            timeout,
+            passwd,
+            ..
         } => match reply {
             Reply::Session(id) => Some(Welcome {
                 id: *id,

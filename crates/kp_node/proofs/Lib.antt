@@ -26,3 +26,5 @@ pub mod Meanings
 pub mod Informed
 pub mod Behind
 pub mod Concerns
+pub mod Tidied
+pub mod Ends

@@ -20,3 +20,5 @@ pub mod Meaning
 pub mod Informing
 pub mod Welcoming
 pub mod Concerned
+pub mod Indexing
+pub mod Ending

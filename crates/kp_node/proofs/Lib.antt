@@ -28,3 +28,4 @@ pub mod Behind
 pub mod Concerns
 pub mod Tidied
 pub mod Ends
+pub mod Greets

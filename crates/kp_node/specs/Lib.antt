@@ -22,3 +22,4 @@ pub mod Welcoming
 pub mod Concerned
 pub mod Indexing
 pub mod Ending
+pub mod Greeting

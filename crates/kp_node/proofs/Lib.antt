@@ -29,3 +29,4 @@ pub mod Concerns
 pub mod Tidied
 pub mod Ends
 pub mod Greets
+pub mod Forgotten

@@ -23,3 +23,4 @@ pub mod Concerned
 pub mod Indexing
 pub mod Ending
 pub mod Greeting
+pub mod Forgetting

@@ -1,5 +1,5 @@
 -- Where few connections changed, what the step makes of all is found at these.
-use Rattle.std.proofs.Common.{◌≡◌, ℕ, suc, ◌+◌, ◌≤◌, Bool, true, false, cond, not, ◌&&◌, ◌||◌, List, [], ◌∷◌, ◌++◌, length, take, drop, Option, Some, None, is_some, refl, ap, sym, subst, ◌∙◌, arith}
+use Rattle.std.proofs.Common.{◌≡◌, ℕ, ◌+◌, Bool, true, false, cond, not, ◌&&◌, ◌||◌, List, [], ◌∷◌, length, Option, Some, None, is_some, refl, ap, sym, subst, ◌∙◌, arith}
 use Rattle.std.specs.Prelude.{nat_eq, map, T, if◌then◌else◌}
 use Rattle.std.specs.List.{filter, list_any, AllByRecursion}
 use Rattle.std.specs.List.Sorted.{IsStrictlySortedBy}
@@ -8,7 +8,7 @@ use Rattle.std.specs.declared.cmp.Ordering.{Ordering}
 use Rattle.std.specs.Ordering.{nat_cmp, eq_by_cmp, is_eq, is_lt}
 use Rattle.std.specs.Cmp.{unsigned_tied, nat_eq_equiv}
 use Rattle.std.specs.FinMap as map
-use Rattle.std.specs.FinMap.{FinMap, is_sorted}
+use Rattle.std.specs.FinMap.{is_sorted}
 use Rattle.std.specs.FinMap.Entries.{below_all}
 use Rattle.std.proofs.lemmas.List.Kept.{IsStrictlySortedBy-filter}
 use Rattle.std.proofs.lemmas.Map.Views.{any-filter_same}
@@ -20,7 +20,7 @@ use Rattle.kp_step.specs.Node.{Seats}
 use Rattle.kp_step.specs.Step.{is_ready, keeps_watches, swept, newly_ready, count_lost}
 use Rattle.kp_conn.specs.Connection.{is_lost}
 use Rattle.kp_node.specs.Changing.{was_given_up, idle_among, ready_among, lost_among, ChangedAt, AreKeptBut, ReadyAmong, LostAmong}
-use Rattle.kp_node.proofs.Maps.{no, one_if, count, count_changed, get-put, same, same_number, kept_all}
+use Rattle.kp_node.proofs.Maps.{no, one_if, count_changed, get-put, same, same_number, kept_all}
 
 -- ---- what is ready
 

@@ -30,6 +30,16 @@ pub mod Joined
 pub mod Handed
 pub mod HandedOver
 pub mod Changed
+pub mod Fired
+pub mod Meant
 pub mod Lasting
 pub mod Took
 pub mod Asked
+pub mod Meanings
+pub mod Informed
+pub mod Behind
+pub mod Concerns
+pub mod Tidied
+pub mod Ends
+pub mod Greets
+pub mod Forgotten

@@ -28,3 +28,12 @@ pub mod Replacing
 pub mod Proposing
 pub mod Changing
 pub mod TakingBytes
+pub mod Firing
+pub mod Meaning
+pub mod Informing
+pub mod Welcoming
+pub mod Concerned
+pub mod Indexing
+pub mod Ending
+pub mod Greeting
+pub mod Forgetting

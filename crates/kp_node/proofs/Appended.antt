@@ -246,13 +246,6 @@ module _ (x : Member) (m : AppendMail) where
     whole_last : last_of s ≡ last_index x.held.log
     whole_last = let to = agrees.to in len_unapplied x.held.log s agrees.unapplied agrees.from (omega (arith, to, end))
 
-    pub may_cut : IfSome (weighs x m).keep (λ k. (s.state.applied ≤ k) × (k ≤ last_of s))
-    may_cut = by_keep (weighs x m).keep kept_low kept_high
-      where
-        by_keep : (keep : Option ℕ) → x.vars.commit ≤ kept_to x.held.log keep → kept_to x.held.log keep ≤ last_index x.held.log → IfSome keep (λ k. (s.state.applied ≤ k) × (k ≤ last_of s))
-        by_keep None low high = tt
-        by_keep (Some k) low high = let to = agrees.to in let last = whole_last in (omega (arith, low, to), omega (arith, high, last))
-
     low_end : s.state.applied ≤ kept_to x.held.log (weighs x m).keep
     low_end = let to = agrees.to in let low = kept_low in omega (arith, to, low)
 

@@ -36,6 +36,7 @@ mod telling;
 mod timing;
 mod watched;
 mod welcoming;
+mod written;
 
 pub use changing::found_among;
 pub use concerned::informed_changes;

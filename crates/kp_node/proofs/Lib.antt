@@ -43,3 +43,4 @@ pub mod Tidied
 pub mod Ends
 pub mod Greets
 pub mod Forgotten
+pub mod Writes

@@ -37,3 +37,4 @@ pub mod Indexing
 pub mod Ending
 pub mod Greeting
 pub mod Forgetting
+pub mod Written

@@ -49,6 +49,7 @@ mod timing;
 mod walking;
 mod watched;
 mod welcoming;
+mod written;
 
 pub use changing::found_among;
 pub use concerned::informed_changes;

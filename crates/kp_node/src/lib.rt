@@ -11,6 +11,7 @@ mod coming;
 mod connect;
 mod deadlines;
 mod entry;
+mod expiring;
 mod handing;
 mod hearing;
 mod laws;

@@ -2,6 +2,7 @@
 use Rattle.std.proofs.Common.{◌≡◌, ℕ, suc, zero, ◌+◌, ◌-◌, ◌≤◌, ◌<◌, ◌^◌, Bool, true, false, cond, not, ◌&&◌, nat_eq, nat_le, nat_lt, List, [], ◌∷◌, ◌++◌, length, Option, Some, None, refl, ap, sym, subst, ◌∙◌, arith, append-nil, length-append, IsTrue}
 use Rattle.std.proofs.lemmas.Bool.Decides.{nat_tests}
 use Rattle.std.proofs.lemmas.List.{append_assoc, take_all, length-drop, drop-append-le}
+use Rattle.std.specs.List.{list_any}
 use Rattle.std.specs.Prelude.{map, take, drop, if◌then◌else◌}
 use Rattle.kp_model.specs.declared.entry.Body.{Body}
 use Rattle.kp_model.specs.LogEntry.{LogEntry}
@@ -13,7 +14,7 @@ use Rattle.kp_entry.specs.declared.record.Record.TheVariants as record_
 use Rattle.kp_entry.specs.Heads.{appended}
 use Rattle.kp_entry.specs.Log.{Log, behind, last_index, with_entries}
 use Rattle.kp_entry.specs.Held.{Held, replay}
-use Rattle.kp_raft.specs.declared.event.RaftEvent.TheVariants as asked
+use Rattle.kp_raft.specs.declared.event.RaftEvent.TheVariants as raft
 use Rattle.kp_raft.specs.declared.event.RaftOut.{RaftOut}
 use Rattle.kp_raft.specs.Numbers.{greatest}
 use Rattle.kp_raft.specs.Rules.{entry_with, proposed, still_leading, wrote, may_commit}
@@ -24,12 +25,23 @@ use Rattle.kp_snapshot.specs.Snapshots.{Snapshot}
 use Rattle.kp_step.specs.Handing.{Desk, proposed_all, desk}
 use Rattle.kp_watch.specs.declared.watch.Watch.{Watch}
 use Rattle.kp_step.specs.Node.{Node}
-use Rattle.kp_step.specs.Step.{keeps_watches}
-use Rattle.kp_node.specs.Steps.{Reacts}
-use Rattle.kp_step.specs.Asking.{reacted, propose_if, taken_by}
+use Rattle.kp_step.specs.Step.{Stepped, Turn, keeps_watches, base_image, ends_in_base, filled, rose, became_leader, named, is_append_rep, answers_append, all_heard, risen, with_row_if, raft_table, raft_turn, turn, turned, standing_of, step, together}
+use Rattle.kp_step.specs.Step.{behind as behind_table}
+use Rattle.kp_step.specs.Choices.{Choices}
+use Rattle.kp_step.specs.Committing.{hear_all}
+use Rattle.kp_step.specs.Tables.{tabled}
+use Rattle.kp_raft.specs.declared.mail.Mail.{Mail}
+use Rattle.kp_raft.specs.declared.mail.Mail.TheVariants as mail
+use Rattle.kp_event.specs.declared.event.NodeEventKind.{NodeEventKind}
+use Rattle.kp_event.specs.declared.event.NodeEventKind.TheVariants as kind
+use Rattle.kp_event.specs.declared.said.Said.TheVariants as says
+use Rattle.kp_node.specs.declared.outcome.Outcome.{Outcome as Given}
+use Rattle.kp_node.proofs.Reacting.{behind_steps}
+use Rattle.kp_node.specs.Steps.{images, Reacts, Steps, given_behind}
+use Rattle.kp_step.specs.Asking.{Words, Input, idle, asks, reacted, installed, asked, propose_if, taken_by, expiries, own_image, may_propose}
 use Rattle.kp_node.specs.Parts.{Parts, node_of}
 use Rattle.kp_node.specs.Holding.{Holds}
-use Rattle.kp_node.specs.Proposing.{AtDesk, Does, Proposes, entries_of, desk_of, taken_of, proposed_to, proposed_by}
+use Rattle.kp_node.specs.Proposing.{AtDesk, Does, Proposes, entries_of, desk_of, taken_of, proposed_to, proposed_by, expire_step, forward_step}
 use Rattle.kp_node.proofs.Maps.{no, kept_all}
 use Rattle.kp_node.proofs.Handed.{map_length, takes_none}
 
@@ -91,7 +103,7 @@ module _ (m : Member) (now : ℕ) (bs : List Body) (room : last_index m.held.log
 
   pub appends_all : (is_leader m.vars.role ≡ false → bs ≡ []) → (cs : List Body) → cs ≡ bs → Appends m (entries_of m.held.term now cs) (proposed_to m now cs)
   appends_all none [] e = record { records = refl; mail = refl; commit = omega arith; leads = λ l. l }
-  appends_all none (c ∷ cs) e = subst (λ l. Appends m (entries_of m.held.term now l) (react m.members m.node m.held (running_of m) (asked.Propose now l))) (sym e) (appends_if (is_leader m.vars.role) refl none)
+  appends_all none (c ∷ cs) e = subst (λ l. Appends m (entries_of m.held.term now l) (react m.members m.node m.held (running_of m) (raft.Propose now l))) (sym e) (appends_if (is_leader m.vars.role) refl none)
 
 -- ---- the storage and the log stay of one piece
 
@@ -197,3 +209,116 @@ module _ (p z : Parts) (e : p ≡ z) (h : Holds p) (ends : p.member.vars.commit 
 
 pub commit_ends : (r c l : ℕ) → r ≡ c → r ≤ l → c ≤ l
 commit_ends r c l is to = omega (arith, is, to)
+
+-- ---- nothing else of the node changes
+
+-- whatever is proposed, entries are appended, nothing is sent, and nobody becomes leader
+pub record IsPlain (x : Node) (o : Outcome Snapshot) : Type 0 where
+  pub entries : List LogEntry
+  pub records : o.records ≡ appended entries
+  pub mail : o.mail ≡ []
+  pub leads : is_leader o.running.role ≡ true → is_leader x.running.role ≡ true
+
+module _ (x : Node) (now : ℕ) where
+  leads_on : (v : Running) (b : Bool) → is_leader (cond b v (following v 0)).role ≡ true → is_leader v.role ≡ true
+  leads_on v true e = e
+  leads_on v false e = no false refl e
+
+  plain_if : (bs : List Body) (b : Bool) → IsPlain x (cond b (record { records = appended (proposed x.held now bs); running = wrote x.members x.me x.held x.running (proposed x.held now bs); mail = [] }) (nothing x.running))
+  plain_if bs true = record { entries = proposed x.held now bs; records = refl; mail = refl; leads = leads_on x.running (nat_lt (last_index x.held.log + length (proposed x.held now bs)) 4611686018427387904) }
+  plain_if bs false = record { entries = []; records = refl; mail = refl; leads = λ l. l }
+
+  pub plain : (bs : List Body) → IsPlain x (reacted x (propose_if now bs))
+  unfolding reacted
+  plain [] = record { entries = []; records = refl; mail = refl; leads = λ l. l }
+  plain (b ∷ bs) = plain_if (b ∷ bs) (is_leader x.running.role)
+
+ends_in_none : (es : List LogEntry) → ends_in_base (appended es) ≡ false
+ends_in_none [] = refl
+ends_in_none (e ∷ es) = ends_in_none es
+
+module _ (x : Node) (o : Outcome Snapshot) (h : IsPlain x o) where
+  pub no_image : None ≡ base_image images x o.records None
+  no_image = sym (ap (λ rs. if ends_in_base rs then Some (own_image images x) else None) h.records ∙ ap (λ b. if b then Some (own_image images x) else None) (ends_in_none h.entries))
+
+  pub no_names : (ids : List ℕ) → map (filled ids) o.mail ≡ o.mail
+  no_names ids = ap (λ ms. map (filled ids) ms) h.mail ∙ sym h.mail
+
+  same_term : (replay x.held o.records).term ≡ x.held.term
+  same_term = ap (λ rs. (replay x.held rs).term) h.records ∙ ap (λ (k : Held). k.term) (replay_appended h.entries x.held)
+
+  not_risen : rose x o ≡ false
+  not_risen = let s = same_term in grind (arith, nat_tests, s)
+
+  none_leads : (a b : Bool) → (a ≡ true → b ≡ true) → (not b && a) ≡ false
+  none_leads a true f = refl
+  none_leads true false f = no false refl (f refl)
+  none_leads false false f = refl
+
+  none_became : became_leader x o ≡ false
+  none_became = none_leads (is_leader o.running.role) (is_leader x.running.role) h.leads
+
+  none_answers : answers_append o ≡ false
+  none_answers = ap (λ (ms : List (ℕ × Mail Snapshot)). list_any (λ (m : ℕ × Mail Snapshot). is_append_rep m.1) ms) h.mail
+
+  module _ (ch : Choices) (now : ℕ) where
+    abbrev turn_with : Bool → Bool → Bool → Turn
+    turn_with risen_ became answers = record {
+      node = behind_table (record x { heard = if became then all_heard now x.state.sessions else x.heard; spoken = if answers then [] else x.spoken }) (with_row_if risen_ (risen ch x.state.applied) (tabled x.seats x.watches));
+      said = says.Raft;
+      forwards = [];
+      told = (with_row_if risen_ (risen ch x.state.applied) (tabled x.seats x.watches)).told;
+      took = (with_row_if risen_ (risen ch x.state.applied) (tabled x.seats x.watches)).took;
+    }
+
+    as_turn : (v : NodeEventKind (Mail Snapshot)) → named x o v ≡ [] → raft_turn images ch x now v o None ≡ turn_with (rose x o) (became_leader x o) (answers_append o)
+    unfolding raft_table hear_all
+    as_turn v none = λ i. record {
+      node = behind_table (record x { heard = if became_leader x o then all_heard now x.state.sessions else hear_all now x.state x.heard (none i); spoken = if answers_append o then [] else x.spoken }) (with_row_if (rose x o) (risen ch x.state.applied) (tabled x.seats x.watches));
+      said = says.Raft;
+      forwards = [];
+      told = (with_row_if (rose x o) (risen ch x.state.applied) (tabled x.seats x.watches)).told;
+      took = (with_row_if (rose x o) (risen ch x.state.applied) (tabled x.seats x.watches)).took;
+    }
+
+    pub same_turn : (v : NodeEventKind (Mail Snapshot)) → named x o v ≡ [] → raft_turn images ch x now v o None ≡ turn x says.Raft
+    same_turn v none = as_turn v none ∙ (λ i. turn_with (not_risen i) (none_became i) (none_answers i))
+
+-- ---- what is given
+
+pub expire_so : (x y : Parts) (now : ℕ) (bs : List Body) (out : RaftOut Snapshot) (n : ℕ) (o : Given) → Reacts (proposed_by (node_of x) now bs) None x out y → n ≡ length (taken_by (node_of x) now bs)
+    → taken_by (node_of x) now bs ≡ taken_by (node_of x) now (expiries (node_of x) now) → o ≡ given_behind (says.Expired n) out None (standing_of (node_of y)) → (ch : Choices) → Steps (expire_step ch (node_of x) now) x y o
+expire_so x y now bs out n o r count same e ch =
+    let p = plain (node_of x) now (taken_by (node_of x) now (expiries (node_of x) now)) in
+    let s : Reacts (proposed_by (node_of x) now (expiries (node_of x) now)) None x out y = subst (λ l. Reacts (reacted (node_of x) (propose_if now l)) None x out y) same r in
+    subst (Steps (expire_step ch (node_of x) now) x y) (sym (e ∙ ap (λ k. given_behind (says.Expired k) out None (standing_of (node_of y))) (count ∙ ap length same)))
+    (behind_steps ch kind.ExpireDue (says.Expired (length (taken_by (node_of x) now (expiries (node_of x) now)))) (proposed_by (node_of x) now (expiries (node_of x) now)) None x y out s refl (no_image (node_of x) (proposed_by (node_of x) now (expiries (node_of x) now)) p) (no_names (node_of x) (proposed_by (node_of x) now (expiries (node_of x) now)) p x.spoken))
+
+pub forward_so : (x y : Parts) (now term from : ℕ) (b : Body) (out : RaftOut Snapshot) (o : Given) → Reacts (proposed_by (node_of x) now (b ∷ [])) None x out y
+    → o ≡ given_behind says.Raft out None (standing_of (node_of y)) → (ch : Choices) → Steps (forward_step ch (node_of x) now term from b) x y o
+forward_so x y now term from b out o r e ch =
+    let p = plain (node_of x) now (taken_by (node_of x) now (b ∷ [])) in
+    let made : Outcome Snapshot = proposed_by (node_of x) now (b ∷ []) in
+    subst (λ t. Steps (together images ch (node_of x) (kind.Deliver (mail.Forward term from b)) made None t) x y o) (sym (same_turn (node_of x) made p ch now (kind.Deliver (mail.Forward term from b)) refl))
+    (subst (Steps (together images ch (node_of x) (kind.Deliver (mail.Forward term from b)) made None (turn (node_of x) says.Raft)) x y) (sym e)
+    (behind_steps ch (kind.Deliver (mail.Forward term from b)) says.Raft made None x y out r refl (no_image (node_of x) made p) (no_names (node_of x) made p x.spoken)))
+
+-- ---- the step at these events
+
+module _ (words : Words) (ch : Choices) (x : Node) (now : ℕ) where
+  none_installed : (bs : List Body) → installed {I = Snapshot} x (propose_if now bs) ≡ None
+  unfolding installed
+  none_installed [] = refl
+  none_installed (b ∷ bs) = refl
+
+  pub at_expire_due : step words images ch x (record { now = now; kind = kind.ExpireDue }) ≡ expire_step ch x now
+  unfolding step asked turned
+  at_expire_due = ap (λ image. together images ch x kind.ExpireDue (proposed_by x now (expiries x now)) image (turn x (says.Expired (length (taken_by x now (expiries x now)))))) (none_installed (taken_by x now (expiries x now)))
+
+  forward_as : ℕ → ℕ → Body → Input Snapshot → Stepped Snapshot
+  forward_as term from b input = together images ch x (kind.Deliver (mail.Forward term from b)) (reacted x input) (installed x input) (raft_turn images ch x now (kind.Deliver (mail.Forward term from b)) (reacted x input) (installed x input))
+
+  pub at_forward : (term from : ℕ) (b : Body) → may_propose {I = Snapshot} x (mail.Forward term from b) term ≡ true → step words images ch x (record { now = now; kind = kind.Deliver (mail.Forward term from b) }) ≡ forward_step ch x now term from b
+  unfolding step asked turned forward_as
+  at_forward term from b may = ap (λ c. forward_as term from b (if c then propose_if now (taken_by x now (b ∷ [])) else asks (raft.Deliver (mail.Forward term from b)))) may
+      ∙ ap (λ image. together images ch x (kind.Deliver (mail.Forward term from b)) (proposed_by x now (b ∷ [])) image (raft_turn images ch x now (kind.Deliver (mail.Forward term from b)) (proposed_by x now (b ∷ [])) image)) (none_installed (taken_by x now (b ∷ [])))

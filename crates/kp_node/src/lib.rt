@@ -22,6 +22,7 @@ mod firing;
 mod foreseen;
 mod forgetting;
 mod greetings;
+mod expiring;
 mod handing;
 mod hearing;
 mod indexing;

@@ -1,19 +1,26 @@
 //! Bodies are handed in to a leader, and proposed to Raft.
 
-ghost use Rattle.std.specs.Prelude.{◌≡◌, ◌^◌, ◌<◌, ◌≤◌, ◌∷◌, ◌++◌, [], length, List, None, IsTrue, IfOk, OnOk, OnErr};
+ghost use Rattle.std.specs.Prelude.{◌≡◌, ◌==◌, ◌&&◌, ◌^◌, ◌<◌, ◌≤◌, ◌∷◌, ◌++◌, [], length, List, None, IsTrue, IfOk, OnOk, OnErr};
 ghost use Rattle.std.specs.List.{list_all};
+ghost use Rattle.kp_model.specs.declared.entry.Body.{Body};
 ghost use Rattle.kp_model.specs.LogEntry.{LogEntry};
 ghost use Rattle.kp_model.specs.Grammar.{is_body, is_origin, has_numbers as are_numbers};
 ghost use Rattle.kp_model.specs.Store.{Store, last as last_of, with_entry, truncated};
+ghost use Rattle.kp_raft.specs.declared.mail.Mail.TheVariants as mail;
+ghost use Rattle.kp_raft.specs.Numbers.{is_peer as is_other};
 ghost use Rattle.kp_raft.specs.Parts.{is_leader};
+ghost use Rattle.kp_snapshot.specs.Snapshots.{Snapshot};
+ghost use Rattle.kp_step.specs.Choices.{Choices};
 ghost use Rattle.kp_step.specs.Handing.{Desk, proposed, proposed_all};
-ghost use Rattle.kp_step.specs.Asking.{taken_by};
+ghost use Rattle.kp_step.specs.Asking.{may_propose, taken_by};
 ghost use Rattle.kp_node.specs.Parts.{node_of};
-ghost use Rattle.kp_node.specs.Steps.{Reacts};
-ghost use Rattle.kp_node.specs.Proposing.{AtDesk, Does, HandedIn, Proposes, proposed_by, proposed_to, taken_of, wanted};
+ghost use Rattle.kp_node.specs.Steps.{Reacts, Steps};
+ghost use Rattle.kp_node.specs.Proposing.{AtDesk, Does, HandedIn, forward_step, Proposes, proposed_by, proposed_to, taken_of, wanted};
 
 use crate::node::Node;
+use crate::outcome::Outcome;
 use kp_entry::Records;
+use kp_event::Said;
 use kp_model::limits::LAST_NUMBER;
 use kp_model::{Body, Entry, Items, NoMemory, Origin, Role, would_take};
 use kp_raft::{Raft, RaftEvent, RaftOut};
@@ -39,6 +46,40 @@ impl Node {
         self.events += 1;
         let count = out.added;
         Ok((out, count))
+    }
+
+    // Whether this member takes the body of a message of this term from the member of this number: it leads in that term.
+    pub(crate) fn may_propose(&self, term: u64, from: u8) -> bool
+        ensures { (b : Body) → result ≡ may_propose {I = Snapshot} (node_of self.now) (mail.Forward term from b) term }
+    {
+        is_peer(&self.raft, from) && term <= LAST_NUMBER && leads_in(&self.raft, term)
+    }
+
+    // The body that another member sent to the leader is proposed at this time, in milliseconds. After an error nothing
+    // has changed.
+    pub(crate) fn forwarded(
+        &mut self,
+        now: u64,
+        term: u64,
+        from: u8,
+        body: Body,
+    ) -> Result<Outcome, NoMemory>
+        requires { self.old.events < 2 ^ 62 }
+        ensures ok { IfOk result (λ o. (ch : Choices) → Steps (forward_step ch (node_of self.old) now term from body) self.old self.new o) }
+        ensures err { OnErr result (self.new ≡ self.old) }
+    {
+        let bodies = self.alone(body)?;
+        let (out, _) = self.propose(now, bodies)?;
+        Ok(self.behind(Said::Raft, out, None))
+    }
+
+    // A list of this body alone.
+    fn alone(&self, body: Body) -> Result<Vec<Body>, NoMemory>
+        ensures { IfOk result (λ bodies. bodies.items ≡ body ∷ []) }
+    {
+        let mut bodies = Vec::new(self.alloc);
+        bodies.push(body)?;
+        Ok(bodies)
     }
 }
 
@@ -88,10 +129,24 @@ fn hand_in_all(
 }
 
 // Whether the member leads.
-fn leads(raft: &Raft<Image>) -> bool
+pub(crate) fn leads(raft: &Raft<Image>) -> bool
     ensures { result ≡ is_leader raft.now.vars.role }
 {
     matches!(raft.role(), Role::Leader)
+}
+
+// Whether the member leads in this term.
+fn leads_in(raft: &Raft<Image>, term: u64) -> bool
+    ensures { result ≡ (is_leader raft.now.vars.role && term == raft.now.held.term) }
+{
+    leads(raft) && term == raft.term()
+}
+
+// Whether this is the number of another member.
+fn is_peer(raft: &Raft<Image>, node: u8) -> bool
+    ensures { result ≡ is_other raft.now.members raft.now.node node }
+{
+    raft.match_of(node).is_some()
 }
 
 // Those of the bodies that this member takes, which are handed in. After an error some of them are.

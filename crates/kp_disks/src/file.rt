@@ -74,6 +74,14 @@ impl<R: Files<File = File>, E: Print> FileDisk<R, E> {
         }
     }
 
+    // Gives the disk its file, before anything is opened.
+    pub(crate) fn place(&mut self, folder: String, path: String)
+        ensures { self.new ≡ self.old }
+    {
+        self.folder = folder;
+        self.path = path;
+    }
+
     // Opens the file where it is there.
     fn look(&mut self) -> io::Result<()>
         ensures { self.new ≡ self.old }

@@ -7,11 +7,13 @@ keeper keeps a tree of small nodes, as ClickHouse Keeper does.
     keeper store < LINES    runs the lines of the store language on an empty store
     keeper store --help     tells those lines
     keeper load START COUNT runs COUNT lines that are drawn from START on an empty store, and counts what comes of them
+    keeper audit N          tells what the home of node N holds: the files keeper-data/nN.j0, nN.j1, nN.i0 and nN.i1
     keeper --version        tells the version, and the logic that proved it
 
 Standard input is read whole before the first line is taken; at a terminal Ctrl-D ends it.
 It ends with status 0 where all was done. Any other status is told on standard error, as its
-name and a sentence: 2 Usage, 3 BadLine, 4 ReadFault, 5 WriteFault, 6 NoMemory, 10 TooLong.
+name and a sentence: 2 Usage, 3 BadLine, 4 ReadFault, 5 WriteFault, 6 NoMemory, 7 DiskFault,
+8 Damaged, 10 TooLong.
 ";
 
 /// The lines of the store language.

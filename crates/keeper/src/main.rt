@@ -6,11 +6,15 @@ mod told;
 
 use crate::help::asked_for;
 use crate::told::tell;
-use kp_io::{ReaderSource, Seven, WriterSink};
+use kp_disks::file_homes;
+use kp_io::{ReaderSource, WriterSink};
 use kp_top::{Status, run_command};
 use std::env;
 use std::process::ExitCode;
 use std::rt::Env;
+
+/// The folder of the homes, below the one that the program is started in.
+const DATA: &str = "keeper-data";
 
 /// The words behind the program's name; None without memory for them.
 fn words(rt: &(impl Env + AllocGlobal)) -> Option<Vec<String>> {
@@ -26,12 +30,14 @@ fn words(rt: &(impl Env + AllocGlobal)) -> Option<Vec<String>> {
     Some(words)
 }
 
-/// Does what the words say, over standard input and output and blank homes in memory.
+/// Does what the words say, over standard input and output and the homes in files.
 fn run(rt: &HostRuntime, words: &[String]) -> Status {
     let alloc = rt.alloc();
+    let Ok(mut homes) = file_homes(alloc, *rt, *rt, DATA) else {
+        return Status::NoMemory;
+    };
     let mut input = ReaderSource::new(rt.stdin());
     let mut output = WriterSink::new(rt.stdout());
-    let mut homes = Seven::blank(alloc);
     let status = run_command(alloc, words, &mut input, &mut output, &mut homes);
     drop(homes);
     status

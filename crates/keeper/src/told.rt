@@ -14,7 +14,7 @@ fn sentence(status: &Status) -> &'static str {
         Status::NoMemory => {
             "NoMemory: memory ran out; standard output has a beginning of what belongs there"
         }
-        Status::DiskFault => "DiskFault: a disk failed",
+        Status::DiskFault => { "DiskFault: a file of the home failed, as told above" }
         Status::NetFault => "NetFault: the net failed",
         Status::TooLong => {
             "TooLong: the input has more than 67,108,864 bytes; nothing was written"

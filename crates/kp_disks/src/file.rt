@@ -74,6 +74,30 @@ impl<R: Files<File = File>, E: Print> FileDisk<R, E> {
         }
     }
 
+    // Gives the disk its file, before anything is opened.
+    pub(crate) fn place(&mut self, folder: String, path: String)
+        ensures { self.new ≡ self.old }
+    {
+        self.folder = folder;
+        self.path = path;
+    }
+
+    // The file, opened. One that may not be written is opened to be read: then a write fails.
+    fn opened(&self) -> io::Result<File> {
+        let path = self.path.as_str();
+        let mut how = OpenOptions::new();
+        how.read(true).write(true);
+        match how.open(&self.files, path) {
+            Err(error) if error.kind() == ErrorKind::PermissionDenied => {
+                File::open(&self.files, path)
+            }
+            Err(error) if error.kind() == ErrorKind::ReadOnlyFilesystem => {
+                File::open(&self.files, path)
+            }
+            opened => opened,
+        }
+    }
+
     // Opens the file where it is there.
     fn look(&mut self) -> io::Result<()>
         ensures { self.new ≡ self.old }
@@ -81,9 +105,7 @@ impl<R: Files<File = File>, E: Print> FileDisk<R, E> {
         if self.file.is_some() {
             return Ok(());
         }
-        let mut how = OpenOptions::new();
-        how.read(true).write(true);
-        match how.open(&self.files, self.path.as_str()) {
+        match self.opened() {
             Ok(file) => {
                 self.len = file.metadata()?.len();
                 self.file = Some(file);

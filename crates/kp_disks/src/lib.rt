@@ -8,4 +8,4 @@ mod homes;
 
 pub use faulty::FaultyDisk;
 pub use file::FileDisk;
-pub use homes::file_home;
+pub use homes::{file_home, file_homes};

@@ -9,7 +9,7 @@ ghost use Rattle.kp_entry.specs.Records.{has_base};
 ghost use Rattle.kp_journal.specs.Heads.{IsHead};
 ghost use Rattle.kp_homes.specs.declared.fail.HomeFail.TheVariants as home_fail;
 ghost use Rattle.kp_homes.specs.Stands.{Bytes4, Stand, HomeLeft, IsAtRest, IsReady, Stands, StandsForEither, stands, choice, with_more, made};
-ghost use Rattle.kp_homes.specs.Opening.{AreTold, Finds, Found, Holds, IsEarlier, LeftNow, found, blank_found, booted, next_boot, first_head, first_records};
+ghost use Rattle.kp_homes.specs.Opening.{AreTold, Finds, Found, Holds, IsEarlier, LeftNow, found, blank_found, booted, IsWithin, next_boot, first_head, first_records};
 ghost use Rattle.kp_homes.specs.Reading.{seen, found_of, IsLive};
 ghost use Rattle.kp_homes.specs.Homes.{IsKept, IsOfStart, IsOfFirst, Keeps, Opens, IsBootedOrNot, disks_of, fail_of};
 
@@ -40,6 +40,7 @@ fn begin<H: Disk>(alloc: Global, disks: &mut Four<H>, node: u8) -> Result<Option
     ensures rest { (b : Bytes4) → AreTold H.held H.past disks.old b → HasRoom disks.new.moments → IfOk result (λ _. IsAtRest H.held H.past disks.new b) }
     ensures ready { IfOk result (λ l. IfSome l (λ v. IsReady v.second (H.held disks.new.j0) (H.held disks.new.j1) v.journal)) }
     ensures node { IfOk result (λ l. IfSome l (λ v. v.journal.head.node ≡ node)) }
+    ensures room { IfOk result (λ l. IfSome l (λ v. IsWithin v.image v.replay.held.log.entries)) }
     ensures fault { IsErrOf result home_fail.DiskFault → Rose (home_faults H.faults disks.old) (home_faults H.faults disks.new) }
     ensures quiet { OnOk result (home_faults H.faults disks.new ≡ home_faults H.faults disks.old) }
     ensures no_full { (slot len : ℕ) → IsErrOf result (home_fail.Full slot len) → ⊥ }
@@ -228,6 +229,7 @@ impl<H: Disk> Home<H> {
         ensures keeps { (b : Bytes4) → AreTold H.held H.past disks b → HasRoom (disks_of result).moments → IfOk result (λ x. (f : Found) × (found node b ≡ Ok f) × Keeps H.held H.past x.0.disks x.0.second x.0.journal (booted f)) }
         ensures ready { IfOk result (λ x. IsReady x.0.second (H.held x.0.disks.j0) (H.held x.0.disks.j1) x.0.journal) }
         ensures node { IfOk result (λ x. x.0.journal.head.node ≡ node) }
+        ensures room { IfOk result (λ x. IsWithin x.1.image x.1.rest.items) }
         ensures full { (slot len : ℕ) → fail_of result ≡ Some (home_fail.Full slot len) → 2 ^ 40 < len }
         ensures fault { fail_of result ≡ Some home_fail.DiskFault → Rose (home_faults H.faults disks) (home_faults H.faults (disks_of result)) }
         ensures moment { disks.moments ≤ (disks_of result).moments }

@@ -6,3 +6,4 @@ pub mod Output
 pub mod Run
 pub mod Paced
 pub mod Loading
+pub mod Auditing

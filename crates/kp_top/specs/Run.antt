@@ -69,6 +69,8 @@ abbrev pub IsBeforeLines : Status → Type 0
 IsBeforeLines status.Usage = ⊤
 IsBeforeLines status.ReadFault = ⊤
 IsBeforeLines status.TooLong = ⊤
+IsBeforeLines status.DiskFault = ⊤
+IsBeforeLines (status.Damaged slot at) = ⊤
 IsBeforeLines _ = ⊥
 
 -- the statuses of the store command

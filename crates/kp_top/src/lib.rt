@@ -1,6 +1,7 @@
 //! The top calls of Keeper: what a command line does, from the bytes that are read to the bytes that are written.
 #![tactic(auto)]
 
+mod audit;
 mod command;
 mod input_lines;
 mod line_commands;

@@ -32,8 +32,8 @@ fn end_in<S: Source, W: Sink>(
     told(&status)
 }
 
-// The words of a command line.
-fn words_of(alloc: Global, words: &str) -> Result<Vec<String>, AllocError> {
+/// The words of a command line.
+pub fn words_of(alloc: Global, words: &str) -> Result<Vec<String>, AllocError> {
     let mut list = Vec::new(alloc);
     for word in words.split(' ') {
         list.push(String::from_str(alloc, word)?)?;

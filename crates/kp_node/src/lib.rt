@@ -1,9 +1,10 @@
 //! A node: the Raft step, the storage, connections, watches and expiry put together, one step for each event.
 //!
-//! What a node does is defined in `kp_step`; here stands the code of it. So far it has the node and its start, a leader's
-//! messages, images of the log, connections that come, go and take what is ready for them, when sessions were heard, and
-//! what is done with one connection: how its connect request is looked at and answered, how its requests are answered or
-//! refused, how it hears of events and learns of an entry, when a question sets its watch, and what is said.
+//! What a node does is defined in `kp_step`; here stands the code of it. So far it has the node and its start, and these
+//! events: connections that come, go and take what is ready for them, timeouts, all messages between nodes, a leader's
+//! beat, images of the log, and the end of sessions that were not heard. Of the two others, bytes of a client and an
+//! applied entry, it has the parts: how requests join, are handed in and answered, how connect requests are looked at and
+//! greeted, and what an entry means for the connections that hear of it and for that of its session.
 #![tactic(auto)]
 
 mod ahead;
@@ -17,12 +18,12 @@ mod connect;
 mod deadlines;
 mod ending;
 mod entry;
+mod expiring;
 mod filling;
 mod firing;
 mod foreseen;
 mod forgetting;
 mod greetings;
-mod expiring;
 mod handing;
 mod hearing;
 mod indexing;

@@ -113,17 +113,24 @@ in_read nodes (a ∷ b ∷ c ∷ []) l fits e =
     )
 in_read nodes (a ∷ b ∷ c ∷ d ∷ ws) l fits e = absurd (cc)
 
+-- two words that name a node and a number, of which something is made
+pub pair_read : {L : Type 0} (nodes : ℕ) (a b : List ℕ) (make : ℕ → ℕ → L) (l : L) → nodes < 2 ^ 64
+    → (node_of nodes a >>= λ n. number_of last_number b >>= λ k. Some (make n k)) ≡ Some l
+    → (n : ℕ) × ((k : ℕ) × ((a ∷ b ∷ [] ≡ decimal n ∷ decimal k ∷ []) × (((is_node nodes n && is_number k) ≡ true) × (Some (make n k) ≡ Some l))))
+pair_read nodes a b make l fits e =
+    let p = bound (node_of nodes a) _ l e in
+    let n = node_read nodes a p.0 fits p.1 in
+    let q = bound (number_of last_number b) _ l p.2 in
+    let k = number_read b q.0 q.1 in
+    (p.0, (q.0, (ap (λ x. x ∷ b ∷ []) n.0 ∙ ap (λ x. decimal p.0 ∷ x ∷ []) k.0, (both (is_node nodes p.0) (is_number q.0) n.1 k.1, q.2))))
+
 hangup_read : (nodes : ℕ) (ws : List (List ℕ)) (l : EventLine) → nodes < 2 ^ 64 → hangup_line nodes ws ≡ Some l → AreWordsOf nodes (codes "hangup" ∷ ws) l
 unfolding hangup_line
 hangup_read nodes [] l fits e = absurd (cc)
 hangup_read nodes (a ∷ []) l fits e = absurd (cc)
 hangup_read nodes (a ∷ b ∷ []) l fits e =
-    let p = bound (node_of nodes a) _ l e in
-    let n = node_read nodes a p.0 fits p.1 in
-    let q = bound (number_of last_number b) _ l p.2 in
-    let k = number_read b q.0 q.1 in
-    subst (AreWordsOf nodes (codes "hangup" ∷ a ∷ b ∷ [])) (got (Hangup p.0 q.0) l q.2)
-    (ap (λ x. codes "hangup" ∷ x ∷ b ∷ []) n.0 ∙ ap (λ x. codes "hangup" ∷ decimal p.0 ∷ x ∷ []) k.0, both (is_node nodes p.0) (is_number q.0) n.1 k.1)
+    let p = pair_read nodes a b Hangup l fits e in
+    subst (AreWordsOf nodes (codes "hangup" ∷ a ∷ b ∷ [])) (got (Hangup p.0 p.1.0) l p.1.1.1.1) (ap (λ ws. codes "hangup" ∷ ws) p.1.1.0, p.1.1.1.0)
 hangup_read nodes (a ∷ b ∷ c ∷ ws) l fits e = absurd (cc)
 
 drain_read : (nodes : ℕ) (ws : List (List ℕ)) (l : EventLine) → nodes < 2 ^ 64 → drain_line nodes ws ≡ Some l → AreWordsOf nodes (codes "drain" ∷ ws) l
@@ -131,12 +138,8 @@ unfolding drain_line
 drain_read nodes [] l fits e = absurd (cc)
 drain_read nodes (a ∷ []) l fits e = absurd (cc)
 drain_read nodes (a ∷ b ∷ []) l fits e =
-    let p = bound (node_of nodes a) _ l e in
-    let n = node_read nodes a p.0 fits p.1 in
-    let q = bound (number_of last_number b) _ l p.2 in
-    let k = number_read b q.0 q.1 in
-    subst (AreWordsOf nodes (codes "drain" ∷ a ∷ b ∷ [])) (got (Drain p.0 q.0) l q.2)
-    (ap (λ x. codes "drain" ∷ x ∷ b ∷ []) n.0 ∙ ap (λ x. codes "drain" ∷ decimal p.0 ∷ x ∷ []) k.0, both (is_node nodes p.0) (is_number q.0) n.1 k.1)
+    let p = pair_read nodes a b Drain l fits e in
+    subst (AreWordsOf nodes (codes "drain" ∷ a ∷ b ∷ [])) (got (Drain p.0 p.1.0) l p.1.1.1.1) (ap (λ ws. codes "drain" ∷ ws) p.1.1.0, p.1.1.1.0)
 drain_read nodes (a ∷ b ∷ c ∷ ws) l fits e = absurd (cc)
 
 pub one_number_read : (ws : List (List ℕ)) (n : ℕ) → one_number ws ≡ Some n → (ws ≡ decimal n ∷ []) × (is_number n ≡ true)

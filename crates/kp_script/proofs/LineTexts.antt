@@ -1,5 +1,5 @@
 -- Lines and their words.
-use Rattle.std.proofs.Common.{◌≡◌, ◌<◌, ◌^◌, ℕ, Bool, true, false, cond, ◌&&◌, inl, inr, List, [], ◌∷◌, Some, None, refl, sym, ap, subst, ◌∙◌}
+use Rattle.std.proofs.Common.{◌≡◌, ◌<◌, ◌^◌, ℕ, Bool, true, false, cond, inl, inr, List, [], ◌∷◌, Some, None, refl, sym, ap, subst, ◌∙◌}
 use Rattle.std.specs.Prelude.{IsTrue, ◌↔◌}
 use Rattle.std.specs.List.{list_all, join_with_byte}
 use Rattle.std.specs.Str.{is_utf8, IsUtf8}
@@ -27,7 +27,7 @@ use Rattle.kp_script.specs.declared.line.LookLine.{LookLine}
 use Rattle.kp_script.specs.declared.line.LookLine.TheVariants as look
 use Rattle.kp_script.specs.declared.line.ScriptLine.{ScriptLine}
 use Rattle.kp_script.specs.declared.line.ScriptLine.TheVariants as script
-use Rattle.kp_script.proofs.EventTexts.{node_read, node_back, node_part, one_node_read, one_number_read, AreWordsOf, event_read, event_name, event_rest, event_parted, event_back, node_words, three_words, event_parts}
+use Rattle.kp_script.proofs.EventTexts.{node_read, pair_read, node_back, one_node_read, one_number_read, event_read, event_name, event_rest, event_parted, event_back, node_words, three_words, event_parts}
 use lib.Chars.{codes}
 
 -- ---- what is read as a line is spelled so
@@ -63,12 +63,8 @@ unfolding who_line
 who_read nodes [] l fits e = absurd (cc)
 who_read nodes (a ∷ []) l fits e = absurd (cc)
 who_read nodes (a ∷ b ∷ []) l fits e =
-    let p = bound (node_of nodes a) _ l e in
-    let n = node_read nodes a p.0 fits p.1 in
-    let q = bound (number_of last_number b) _ l p.2 in
-    let s = number_read b q.0 q.1 in
-    subst (IsWordsOf nodes (codes "who" ∷ a ∷ b ∷ [])) (got (script.Look p.0 (look.Who q.0)) l q.2)
-    (ap (λ x. codes "who" ∷ x ∷ b ∷ []) n.0 ∙ ap (λ x. codes "who" ∷ decimal p.0 ∷ x ∷ []) s.0, both (is_node nodes p.0) (is_number q.0) n.1 s.1)
+    let p = pair_read nodes a b (λ n s. script.Look n (look.Who s)) l fits e in
+    subst (IsWordsOf nodes (codes "who" ∷ a ∷ b ∷ [])) (got (script.Look p.0 (look.Who p.1.0)) l p.1.1.1.1) (ap (λ ws. codes "who" ∷ ws) p.1.1.0, p.1.1.1.0)
 who_read nodes (a ∷ b ∷ c ∷ ws) l fits e = absurd (cc)
 
 member_read : (nodes : ℕ) (name : List ℕ) (n : ℕ) (l : ScriptLine) → is_node nodes n ≡ true → member_at name n ≡ Some l → IsWordsOf nodes (name ∷ decimal n ∷ []) l

@@ -1,5 +1,5 @@
 -- The texts of messages between nodes.
-use Rattle.std.specs.Prelude.{ℕ, Bool, List, ◌++◌, if◌then◌else◌}
+use Rattle.std.specs.Prelude.{ℕ, List, ◌++◌, if◌then◌else◌}
 use Rattle.std.specs.Fmt.{decimal}
 use Rattle.kp_script.specs.declared.message.MessageLine.{MessageLine}
 use Rattle.kp_script.specs.declared.message.MessageLine.TheVariants as message

@@ -1,4 +1,4 @@
-use Rattle.std.proofs.Common.{◌<◌, ◌^◌, arith}
+use Rattle.std.proofs.Common.{arith}
 use Rattle.kp_script.proofs.LineTexts.{read_as_spelled}
 use Rattle.kp_script.proofs.line.read_script_line.Goals as goal
 

@@ -1,23 +1,20 @@
 -- What Raft makes of bodies that were handed in, and that the node behind it is the step's.
-use Rattle.std.proofs.Common.{◌≡◌, ℕ, suc, zero, ◌+◌, ◌-◌, ◌≤◌, ◌<◌, ◌^◌, Bool, true, false, cond, not, ◌&&◌, nat_eq, nat_le, nat_lt, List, [], ◌∷◌, ◌++◌, length, Option, Some, None, refl, ap, sym, subst, ◌∙◌, arith, append-nil, length-append, IsTrue}
+use Rattle.std.proofs.Common.{◌≡◌, ℕ, suc, zero, ◌+◌, ◌-◌, ◌≤◌, ◌<◌, ◌^◌, Bool, true, false, cond, not, ◌&&◌, nat_lt, List, [], ◌∷◌, ◌++◌, length, Some, None, refl, ap, sym, subst, ◌∙◌, arith, append-nil, length-append}
 use Rattle.std.proofs.lemmas.Bool.Decides.{nat_tests}
 use Rattle.std.proofs.lemmas.List.{append_assoc, take_all, length-drop, drop-append-le}
 use Rattle.std.specs.List.{list_any}
-use Rattle.std.specs.Prelude.{map, take, drop, if◌then◌else◌}
+use Rattle.std.specs.Prelude.{map, if◌then◌else◌}
 use Rattle.kp_model.specs.declared.entry.Body.{Body}
 use Rattle.kp_model.specs.LogEntry.{LogEntry}
 use Rattle.kp_model.specs.Limits.{last_number}
-use Rattle.kp_model.specs.State.{State}
-use Rattle.kp_model.specs.Store.{Store, after, latest as latest_of, last as last_of}
-use Rattle.kp_entry.specs.declared.record.Record.{Record}
-use Rattle.kp_entry.specs.declared.record.Record.TheVariants as record_
+use Rattle.kp_model.specs.Store.{Store, after, last as last_of}
 use Rattle.kp_entry.specs.Heads.{appended}
 use Rattle.kp_entry.specs.Log.{Log, behind, last_index, with_entries}
 use Rattle.kp_entry.specs.Held.{Held, replay}
 use Rattle.kp_raft.specs.declared.event.RaftEvent.TheVariants as raft
 use Rattle.kp_raft.specs.declared.event.RaftOut.{RaftOut}
 use Rattle.kp_raft.specs.Numbers.{greatest}
-use Rattle.kp_raft.specs.Rules.{entry_with, proposed, still_leading, wrote, may_commit}
+use Rattle.kp_raft.specs.Rules.{entry_with, proposed, wrote}
 use Rattle.kp_raft.specs.Members.{Member, running_of}
 use Rattle.kp_raft.specs.Parts.{Running, Outcome, nothing, is_leader, following}
 use Rattle.kp_raft.specs.Steps.{added, react}
@@ -38,7 +35,7 @@ use Rattle.kp_event.specs.declared.said.Said.TheVariants as says
 use Rattle.kp_node.specs.declared.outcome.Outcome.{Outcome as Given}
 use Rattle.kp_node.proofs.Reacting.{behind_steps}
 use Rattle.kp_node.specs.Steps.{images, Reacts, Steps, given_behind}
-use Rattle.kp_step.specs.Asking.{Words, Input, idle, asks, reacted, installed, asked, propose_if, taken_by, expiries, own_image, may_propose}
+use Rattle.kp_step.specs.Asking.{Words, Input, asks, reacted, installed, asked, propose_if, taken_by, expiries, own_image, may_propose}
 use Rattle.kp_node.specs.Parts.{Parts, node_of}
 use Rattle.kp_node.specs.Holding.{Holds}
 use Rattle.kp_node.specs.Proposing.{AtDesk, Does, Proposes, entries_of, desk_of, taken_of, proposed_to, proposed_by, expire_step, forward_step}

@@ -72,19 +72,14 @@ pub record Appends (m : Member) (es : List LogEntry) (o : Outcome Snapshot) : Ty
   pub records : o.records ≡ appended es
   pub mail : o.mail ≡ []
   pub commit : m.vars.commit ≤ o.running.commit
-  pub leads : is_leader o.running.role ≡ true → is_leader m.vars.role ≡ true
 
 module _ (m : Member) (now : ℕ) (bs : List Body) (room : last_index m.held.log + length bs ≤ last_number) where
   all_proposed : proposed m.held now bs ≡ entries_of m.held.term now bs
   all_proposed = take_all (4611686018427387904 - last_index m.held.log) (map (entry_with m.held.term now) bs) (let l = map_length (entry_with m.held.term now) bs in omega (arith, room, l))
 
-  commit_stays : (last : ℕ) (v : Running) (b : Bool) → (cond b v (following v 0)).commit ≡ v.commit
-  commit_stays last v true = refl
-  commit_stays last v false = refl
-
-  leads_still : (v : Running) (b : Bool) → is_leader (cond b v (following v 0)).role ≡ true → is_leader v.role ≡ true
-  leads_still v true e = e
-  leads_still v false e = no false refl e
+  commit_stays : (v : Running) (b : Bool) → (cond b v (following v 0)).commit ≡ v.commit
+  commit_stays v true = refl
+  commit_stays v false = refl
 
   abbrev when_leading : Bool → Outcome Snapshot
   when_leading b = cond b (record { records = appended (proposed m.held now bs); running = wrote m.members m.node m.held (running_of m) (proposed m.held now bs); mail = [] }) (nothing (running_of m))
@@ -93,13 +88,12 @@ module _ (m : Member) (now : ℕ) (bs : List Body) (room : last_index m.held.log
   appends_if true e none = record {
     records = ap appended all_proposed;
     mail = refl;
-    commit = subst (λ c. c ≤ (when_leading true).running.commit) (commit_stays 0 (running_of m) (nat_lt (last_index m.held.log + length (proposed m.held now bs)) 4611686018427387904)) (not_below _ _ _);
-    leads = λ l. e;
+    commit = subst (λ c. c ≤ (when_leading true).running.commit) (commit_stays (running_of m) (nat_lt (last_index m.held.log + length (proposed m.held now bs)) 4611686018427387904)) (not_below _ _ _);
   }
-  appends_if false e none = record { records = ap (λ l. appended (entries_of m.held.term now l)) (sym (none refl)); mail = refl; commit = omega arith; leads = λ l. l }
+  appends_if false e none = record { records = ap (λ l. appended (entries_of m.held.term now l)) (sym (none refl)); mail = refl; commit = omega arith }
 
   pub appends_all : (is_leader m.vars.role ≡ false → bs ≡ []) → (cs : List Body) → cs ≡ bs → Appends m (entries_of m.held.term now cs) (proposed_to m now cs)
-  appends_all none [] e = record { records = refl; mail = refl; commit = omega arith; leads = λ l. l }
+  appends_all none [] e = record { records = refl; mail = refl; commit = omega arith }
   appends_all none (c ∷ cs) e = subst (λ l. Appends m (entries_of m.held.term now l) (react m.members m.node m.held (running_of m) (raft.Propose now l))) (sym e) (appends_if (is_leader m.vars.role) refl none)
 
 -- ---- the storage and the log stay of one piece

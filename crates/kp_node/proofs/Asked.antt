@@ -1,23 +1,20 @@
 -- What Raft makes of bodies that were handed in, and that the node behind it is the step's.
-use Rattle.std.proofs.Common.{◌≡◌, ℕ, suc, zero, ◌+◌, ◌-◌, ◌≤◌, ◌<◌, ◌^◌, Bool, true, false, cond, not, ◌&&◌, nat_eq, nat_le, nat_lt, List, [], ◌∷◌, ◌++◌, length, Option, Some, None, refl, ap, sym, subst, ◌∙◌, arith, append-nil, length-append, IsTrue}
+use Rattle.std.proofs.Common.{◌≡◌, ℕ, suc, zero, ◌+◌, ◌-◌, ◌≤◌, ◌<◌, ◌^◌, Bool, true, false, cond, not, ◌&&◌, nat_lt, List, [], ◌∷◌, ◌++◌, length, Some, None, refl, ap, sym, subst, ◌∙◌, arith, append-nil, length-append}
 use Rattle.std.proofs.lemmas.Bool.Decides.{nat_tests}
 use Rattle.std.proofs.lemmas.List.{append_assoc, take_all, length-drop, drop-append-le}
 use Rattle.std.specs.List.{list_any}
-use Rattle.std.specs.Prelude.{map, take, drop, if◌then◌else◌}
+use Rattle.std.specs.Prelude.{map, if◌then◌else◌}
 use Rattle.kp_model.specs.declared.entry.Body.{Body}
 use Rattle.kp_model.specs.LogEntry.{LogEntry}
 use Rattle.kp_model.specs.Limits.{last_number}
-use Rattle.kp_model.specs.State.{State}
-use Rattle.kp_model.specs.Store.{Store, after, latest as latest_of, last as last_of}
-use Rattle.kp_entry.specs.declared.record.Record.{Record}
-use Rattle.kp_entry.specs.declared.record.Record.TheVariants as record_
+use Rattle.kp_model.specs.Store.{Store, after, last as last_of}
 use Rattle.kp_entry.specs.Heads.{appended}
 use Rattle.kp_entry.specs.Log.{Log, behind, last_index, with_entries}
 use Rattle.kp_entry.specs.Held.{Held, replay}
 use Rattle.kp_raft.specs.declared.event.RaftEvent.TheVariants as raft
 use Rattle.kp_raft.specs.declared.event.RaftOut.{RaftOut}
 use Rattle.kp_raft.specs.Numbers.{greatest}
-use Rattle.kp_raft.specs.Rules.{entry_with, proposed, still_leading, wrote, may_commit}
+use Rattle.kp_raft.specs.Rules.{entry_with, proposed, wrote}
 use Rattle.kp_raft.specs.Members.{Member, running_of}
 use Rattle.kp_raft.specs.Parts.{Running, Outcome, nothing, is_leader, following}
 use Rattle.kp_raft.specs.Steps.{added, react}
@@ -38,7 +35,7 @@ use Rattle.kp_event.specs.declared.said.Said.TheVariants as says
 use Rattle.kp_node.specs.declared.outcome.Outcome.{Outcome as Given}
 use Rattle.kp_node.proofs.Reacting.{behind_steps}
 use Rattle.kp_node.specs.Steps.{images, Reacts, Steps, given_behind}
-use Rattle.kp_step.specs.Asking.{Words, Input, idle, asks, reacted, installed, asked, propose_if, taken_by, expiries, own_image, may_propose}
+use Rattle.kp_step.specs.Asking.{Words, Input, asks, reacted, installed, asked, propose_if, taken_by, expiries, own_image, may_propose}
 use Rattle.kp_node.specs.Parts.{Parts, node_of}
 use Rattle.kp_node.specs.Holding.{Holds}
 use Rattle.kp_node.specs.Proposing.{AtDesk, Does, Proposes, entries_of, desk_of, taken_of, proposed_to, proposed_by, expire_step, forward_step}
@@ -75,19 +72,14 @@ pub record Appends (m : Member) (es : List LogEntry) (o : Outcome Snapshot) : Ty
   pub records : o.records ≡ appended es
   pub mail : o.mail ≡ []
   pub commit : m.vars.commit ≤ o.running.commit
-  pub leads : is_leader o.running.role ≡ true → is_leader m.vars.role ≡ true
 
 module _ (m : Member) (now : ℕ) (bs : List Body) (room : last_index m.held.log + length bs ≤ last_number) where
   all_proposed : proposed m.held now bs ≡ entries_of m.held.term now bs
   all_proposed = take_all (4611686018427387904 - last_index m.held.log) (map (entry_with m.held.term now) bs) (let l = map_length (entry_with m.held.term now) bs in omega (arith, room, l))
 
-  commit_stays : (last : ℕ) (v : Running) (b : Bool) → (cond b v (following v 0)).commit ≡ v.commit
-  commit_stays last v true = refl
-  commit_stays last v false = refl
-
-  leads_still : (v : Running) (b : Bool) → is_leader (cond b v (following v 0)).role ≡ true → is_leader v.role ≡ true
-  leads_still v true e = e
-  leads_still v false e = no false refl e
+  commit_stays : (v : Running) (b : Bool) → (cond b v (following v 0)).commit ≡ v.commit
+  commit_stays v true = refl
+  commit_stays v false = refl
 
   abbrev when_leading : Bool → Outcome Snapshot
   when_leading b = cond b (record { records = appended (proposed m.held now bs); running = wrote m.members m.node m.held (running_of m) (proposed m.held now bs); mail = [] }) (nothing (running_of m))
@@ -96,13 +88,12 @@ module _ (m : Member) (now : ℕ) (bs : List Body) (room : last_index m.held.log
   appends_if true e none = record {
     records = ap appended all_proposed;
     mail = refl;
-    commit = subst (λ c. c ≤ (when_leading true).running.commit) (commit_stays 0 (running_of m) (nat_lt (last_index m.held.log + length (proposed m.held now bs)) 4611686018427387904)) (not_below _ _ _);
-    leads = λ l. e;
+    commit = subst (λ c. c ≤ (when_leading true).running.commit) (commit_stays (running_of m) (nat_lt (last_index m.held.log + length (proposed m.held now bs)) 4611686018427387904)) (not_below _ _ _);
   }
-  appends_if false e none = record { records = ap (λ l. appended (entries_of m.held.term now l)) (sym (none refl)); mail = refl; commit = omega arith; leads = λ l. l }
+  appends_if false e none = record { records = ap (λ l. appended (entries_of m.held.term now l)) (sym (none refl)); mail = refl; commit = omega arith }
 
   pub appends_all : (is_leader m.vars.role ≡ false → bs ≡ []) → (cs : List Body) → cs ≡ bs → Appends m (entries_of m.held.term now cs) (proposed_to m now cs)
-  appends_all none [] e = record { records = refl; mail = refl; commit = omega arith; leads = λ l. l }
+  appends_all none [] e = record { records = refl; mail = refl; commit = omega arith }
   appends_all none (c ∷ cs) e = subst (λ l. Appends m (entries_of m.held.term now l) (react m.members m.node m.held (running_of m) (raft.Propose now l))) (sym e) (appends_if (is_leader m.vars.role) refl none)
 
 -- ---- the storage and the log stay of one piece

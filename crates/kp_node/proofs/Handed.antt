@@ -1,17 +1,15 @@
 -- What is handed in to a leader stands at its desk.
-use Rattle.std.proofs.Common.{◌≡◌, ℕ, suc, ◌+◌, ◌-◌, ◌≤◌, ◌<◌, ◌^◌, Bool, true, false, cond, not, ◌&&◌, nat_eq, nat_le, nat_lt, List, [], ◌∷◌, ◌++◌, length, Option, Some, None, refl, ap, sym, subst, ◌∙◌, arith, append-nil, length-append, IsTrue}
-use Rattle.std.proofs.lemmas.Bool.Decides.{nat_tests}
+use Rattle.std.proofs.Common.{◌≡◌, ℕ, suc, ◌+◌, ◌-◌, ◌≤◌, ◌<◌, ◌^◌, true, false, ◌&&◌, nat_lt, List, [], ◌∷◌, ◌++◌, length, refl, ap, sym, subst, ◌∙◌, arith, append-nil, length-append, IsTrue}
 use Rattle.std.proofs.lemmas.List.{append_assoc, map-append}
 use Rattle.std.proofs.lemmas.List.Folds.{list_all-append}
 use Rattle.std.specs.Prelude.{map, if◌then◌else◌, Result, Ok, Err, OnOk, OnErr}
-use Rattle.std.specs.List.{list_all}
 use Rattle.kp_model.specs.declared.entry.Body.{Body}
 use Rattle.kp_model.specs.LogEntry.{LogEntry}
 use Rattle.kp_model.specs.Grammar.{is_body}
 use Rattle.kp_model.specs.Limits.{last_number}
 use Rattle.kp_model.specs.State.{State}
 use Rattle.kp_model.specs.Step.{apply}
-use Rattle.kp_model.specs.Store.{Store, after, latest as latest_of, last as last_of, with_entry}
+use Rattle.kp_model.specs.Store.{Store, after, last as last_of, with_entry}
 use Rattle.kp_model.specs.Taken.{would_take}
 use Rattle.kp_raft.specs.Members.{Member}
 use Rattle.kp_raft.specs.Parts.{is_leader}

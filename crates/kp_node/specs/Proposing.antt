@@ -1,5 +1,5 @@
 -- What is handed in to a leader, and what Raft makes of it.
-use Rattle.std.specs.Prelude.{◌≡◌, ◌-◌, ◌≤◌, ◌++◌, ◌&&◌, ℕ, nat_lt, Bool, List, [], ◌∷◌, map, length, IsTrue, Option, None, if◌then◌else◌}
+use Rattle.std.specs.Prelude.{◌≡◌, ◌-◌, ◌≤◌, ◌++◌, ◌&&◌, ℕ, nat_lt, Bool, List, [], ◌∷◌, map, length, IsTrue, None, if◌then◌else◌}
 use Rattle.std.specs.List.{list_all}
 use Rattle.kp_model.specs.declared.entry.Body.{Body}
 use Rattle.kp_model.specs.LogEntry.{LogEntry}

@@ -1,4 +1,4 @@
-use Rattle.std.proofs.Common.{subst, sym}
+use Rattle.std.proofs.Common.{subst}
 use Rattle.kp_node.specs.Proposing.{AtDesk, Does, proposed_to}
 use Rattle.kp_node.proofs.proposing.propose_taken.Goals as goal
 

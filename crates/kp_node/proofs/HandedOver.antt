@@ -91,6 +91,7 @@ module _ (g : Ground) (k : ℕ) (f : Fed) (m n : Member) (x y : Store) (ws : Lis
     served = parts_serve h k ws mid ws' c here c' (desk_of x [] []) (desk_of y bs fs) f from.1 (emptied live) dropped_if (subst (λ s. IsFinished s k f.end mid here ws' c') (ap (λ (z : Store). z.state) from.0.store) finished);
     over = over;
     store = from.0.store;
+    at = from.0;
   }
 
   -- where it finds no memory, there is a request
@@ -102,7 +103,8 @@ module _ (g : Ground) (k : ℕ) (f : Fed) (m n : Member) (x y : Store) (ws : Lis
     desk = desk_of x [] [];
     served = subst (λ (w : List Watch × Connection). IsServed h k ws c (desk_of x [] []) f w.0 w.1 (desk_of x [] [])) (λ i. (sym gone i, sym is i)) (given_up h k ws c here (desk_of x [] []) (desk_of y bs fs) f q qs e from.1);
     over = subst (λ (w : Member × Handed). HandsOver g m [] [] w.1 w.0) (λ i. (sym same i, sym none i)) (record { raft = proposes_none m g.now [] refl; mail = refl });
-    store = back ∙ ap (λ (w : Store). truncated w (last_of x)) from.0.store ∙ ap (λ us. record x { unapplied = us }) (taken_back x.state.applied x.unapplied (entries_of g.term g.now bs)) ∙ ap (λ us. record x { unapplied = us }) (sym (append-nil x.unapplied));
+    store = is_back ∙ ap (λ us. record x { unapplied = us }) (sym (append-nil x.unapplied));
+    at = subst (λ w. AtDesk x g.term g.now w [] (desk_of x [] [])) (sym is_back) begun;
   }
     where
       taken_back : {A : Type 0} (n : ℕ) (us es : List A) → take (n + length us - n) (us ++ es) ≡ us
@@ -111,6 +113,9 @@ module _ (g : Ground) (k : ℕ) (f : Fed) (m n : Member) (x y : Store) (ws : Lis
           take_whole : {A : Type 0} (us es : List A) → take (length us) (us ++ es) ≡ us
           take_whole [] es = refl
           take_whole (u ∷ us) es = ap (λ z. u ∷ z) (take_whole us es)
+
+      is_back : z ≡ x
+      is_back = back ∙ ap (λ (w : Store). truncated w (last_of x)) from.0.store ∙ ap (λ us. record x { unapplied = us }) (taken_back x.state.applied x.unapplied (entries_of g.term g.now bs))
 
   by_requests : (o : Handed) (c' : Connection) (ws' : List Watch) (z : Store) → n ≡ m → o ≡ record { records = []; mail = [] } → c' ≡ closed true here → ws' ≡ dropped ws k → z ≡ truncated y (last_of x) → (bs ≡ [] → fs ≡ [] → ⊥) → (qs : List Request) → f.requests ≡ qs → GivesUp o c' ws' z
   by_requests o c' ws' z same none is gone back some [] e =

@@ -16,7 +16,7 @@ use Rattle.kp_node.specs.declared.joining.Ground.{Ground}
 use Rattle.kp_node.specs.declared.serving.Handed.{Handed}
 use Rattle.kp_node.specs.Deciding.{kept_watches}
 use Rattle.kp_node.specs.Joining.{ground_in, desk_of}
-use Rattle.kp_node.specs.Proposing.{entries_of}
+use Rattle.kp_node.specs.Proposing.{AtDesk}
 use Rattle.kp_node.specs.Serving.{HandsOver, Serves}
 use Rattle.kp_node.specs.Taking.{taken, Takes}
 
@@ -51,5 +51,5 @@ module _ (g : Ground) (k : ℕ) (draw : List ℕ) (text : List ℕ → List ℕ)
         connection = h.served.1.0 ∙ ap (λ (w : Served). w.connection) (sym same);
         watches = h.served.1.2 ∙ ap (λ (w : Served). kept_watches k c'.phase w.watches) (sym same);
         over = subst (λ (d : step.Desk). HandsOver g m d.bodies d.forwards o n) desk h.over;
-        store = h.store ∙ ap (λ (d : step.Desk). record x { unapplied = x.unapplied ++ entries_of g.term g.now d.bodies }) desk;
+        at = subst (λ (d : step.Desk). AtDesk x g.term g.now y d.bodies d) desk h.at;
       }

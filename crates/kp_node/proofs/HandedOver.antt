@@ -1,36 +1,26 @@
 -- What was handed in goes on its way, or nothing of it does.
-use Rattle.std.proofs.Common.{◌≡◌, ℕ, ◌+◌, ◌-◌, ◌≤◌, ◌<◌, Bool, true, false, List, [], ◌∷◌, ◌++◌, length, take, map, Option, Some, None, Result, Ok, Err, refl, ap, sym, subst, ◌∙◌, arith, append-nil, append_assoc, length-append, nat_lt}
-use Rattle.std.specs.Prelude.{if◌then◌else◌, nat_le, ◌&&◌, IsOk, IsTrue}
+use Rattle.std.proofs.Common.{◌≡◌, ℕ, ◌+◌, ◌-◌, ◌≤◌, true, false, List, [], ◌∷◌, ◌++◌, length, take, map, Option, refl, ap, sym, subst, ◌∙◌, arith, append-nil, append_assoc, length-append}
+use Rattle.std.specs.Prelude.{if◌then◌else◌, IsTrue}
 use Rattle.std.specs.List.{list_all}
 use Rattle.kp_model.specs.declared.entry.Body.{Body}
 use Rattle.kp_model.specs.Grammar.{is_body}
 use Rattle.kp_model.specs.Limits.{last_number}
-use Rattle.kp_model.specs.Taken.{would_take}
 use Rattle.kp_model.specs.Store.{Store, last as last_of, truncated}
 use Rattle.kp_wire.specs.declared.request.Request.{Request}
 use Rattle.kp_watch.specs.declared.watch.Watch.{Watch}
 use Rattle.kp_watch.specs.Watching.{dropped}
 use Rattle.kp_raft.specs.declared.event.RaftOut.{RaftOut}
-use Rattle.kp_raft.specs.Members.{Member, running_of, Steps as RaftSteps}
-use Rattle.kp_raft.specs.Parts.{is_leader}
+use Rattle.kp_raft.specs.Members.{Member}
 use Rattle.kp_snapshot.specs.Snapshots.{Snapshot}
 use Rattle.kp_conn.specs.declared.fed.Fed.{Fed}
 use Rattle.kp_conn.specs.Connection.{Connection, closed, is_lost}
-use Rattle.kp_model.specs.declared.command.Cmd.{Cmd}
-use Rattle.kp_model.specs.declared.entry.Body.TheVariants as body
-use Rattle.kp_ask.specs.Asks.{command}
-use Rattle.kp_conn.specs.declared.phase.Phase.{Phase}
-use Rattle.kp_conn.specs.declared.phase.Phase.TheVariants as phase
-use Rattle.kp_conn.specs.Connection.{joined}
-use Rattle.kp_step.specs.Choices.{is_out, less}
 use Rattle.kp_step.specs.Handing as step
 use Rattle.kp_step.specs.Handing.{Joined, joined_so, joined_all, joined_one, joined_as, joined_write, taking, numbered, unnumbered, handed, is_led}
-use Rattle.kp_step.proofs.Tables.{no}
 use Rattle.kp_node.specs.declared.joining.Ground.{Ground}
 use Rattle.kp_node.specs.declared.serving.Handed.{Handed}
 use Rattle.kp_node.specs.Proposing.{AtDesk, entries_of, Does, proposed_to}
 use Rattle.kp_node.specs.Joining.{IsJoined, ground_in, desk_of, IsBehind, AreJoined}
-use Rattle.kp_node.specs.Serving.{IsServed, IsEmptied, IsFinished, sent_to, Proposes, HandsOver, Serves}
+use Rattle.kp_node.specs.Serving.{IsServed, IsEmptied, IsFinished, Proposes, HandsOver, Serves}
 use Rattle.kp_node.proofs.Joined.{joined_empties}
 use Rattle.kp_node.proofs.Served.{parts_serve, given_up}
 

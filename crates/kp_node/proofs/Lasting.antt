@@ -1,7 +1,6 @@
 -- What stays of a connection that is served: the session that it serves, until it is over, and the watches of the others.
-use Rattle.std.proofs.Common.{◌≡◌, ℕ, zero, suc, Bool, true, false, cond, not, ◌&&◌, ◌||◌, nat_eq, List, [], ◌∷◌, ◌++◌, Option, Some, None, refl, ap, sym, subst, ◌∙◌}
+use Rattle.std.proofs.Common.{◌≡◌, ℕ, Bool, true, false, cond, not, ◌&&◌, ◌||◌, nat_eq, List, [], ◌∷◌, ◌++◌, Option, Some, None, refl, ap, sym, subst, ◌∙◌}
 use Rattle.std.specs.Prelude.{if◌then◌else◌, nat_le}
-use Rattle.std.specs.List.{filter, list_any, AllByRecursion}
 use Rattle.std.specs.FinMap as map
 use Rattle.kp_model.specs.declared.command.Cmd.{Cmd}
 use Rattle.kp_model.specs.declared.entry.Body.{Body}
@@ -29,15 +28,15 @@ use Rattle.kp_step.specs.declared.seat.Seat.{Seat}
 use Rattle.kp_step.specs.Choices.{Luck, is_out, less}
 use Rattle.kp_step.specs.Node.{Seats}
 use Rattle.kp_step.specs.Answers.{Answer, answer_of}
-use Rattle.kp_step.specs.Settling.{Settled, settled, settled_so, settled_by, goes_on, with_queue, put_answer, session_in, is_end, telling, told_by}
+use Rattle.kp_step.specs.Settling.{Settled, settled, settled_so, settled_by, goes_on, with_queue, put_answer, session_in, is_end}
 use Rattle.kp_step.specs.Handing as step
 use Rattle.kp_step.specs.Handing.{Joined, joined_so, joined_all, joined_one, joined_as, joined_write, taking, numbered, unnumbered, handed, proposed, is_led, served, served_as, serves, first_served, connects, served_so, is_refused, refusal, opening, origin, Served, ended_by}
 use Rattle.kp_step.specs.Step.{keeps_watches, swept}
 use Rattle.kp_step.proofs.Tables.{no}
-use Rattle.kp_node.specs.Changing.{ChangedAt, AreKeptBut}
+use Rattle.kp_node.specs.Changing.{AreKeptBut}
 use Rattle.kp_node.specs.Deciding.{kept_watches}
 use Rattle.kp_node.specs.Holding.{served_by, AreKept}
-use Rattle.kp_node.proofs.Maps.{same_number, kept_all, get-put}
+use Rattle.kp_node.proofs.Maps.{get-put}
 use Rattle.std.specs.Cmp.{nat_eq_equiv}
 use Rattle.kp_node.proofs.Changed.{turn_watches, walks_on, walk_ends}
 use Rattle.kp_node.proofs.Owned.{answer-own}

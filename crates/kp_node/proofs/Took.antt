@@ -1,9 +1,8 @@
 -- A connection takes bytes by its phase.
-use Rattle.std.proofs.Common.{◌≡◌, ℕ, Bool, true, false, List, [], ◌∷◌, ◌++◌, Option, Some, None, refl, ap, sym, subst, ◌∙◌}
+use Rattle.std.proofs.Common.{◌≡◌, ℕ, false, List, [], refl, ap, sym, subst, ◌∙◌}
 use Rattle.kp_model.specs.Store.{Store}
 use Rattle.kp_raft.specs.Members.{Member}
 use Rattle.kp_watch.specs.declared.watch.Watch.{Watch}
-use Rattle.kp_watch.specs.Watching.{dropped}
 use Rattle.kp_conn.specs.declared.fed.Fed.{Fed}
 use Rattle.kp_conn.specs.declared.phase.Phase.{Phase}
 use Rattle.kp_conn.specs.declared.phase.Phase.TheVariants as phase

@@ -1,5 +1,5 @@
 -- What was read of a live connection is served in two parts: its requests join, and then what can be answered is.
-use Rattle.std.specs.Prelude.{◌≡◌, ◌++◌, ℕ, true, false, List, [], ◌∷◌, map, Option, if◌then◌else◌}
+use Rattle.std.specs.Prelude.{◌≡◌, ◌++◌, ℕ, true, List, [], ◌∷◌, map, Option, if◌then◌else◌}
 use Rattle.kp_model.specs.declared.entry.Body.{Body}
 use Rattle.kp_model.specs.State.{State}
 use Rattle.kp_model.specs.Store.{Store}

@@ -1,7 +1,6 @@
 -- A connection takes bytes: what it becomes, and what a node's parts do.
-use Rattle.std.specs.Prelude.{◌≡◌, ℕ, List, [], ◌∷◌, if◌then◌else◌, Option, Some, None}
+use Rattle.std.specs.Prelude.{◌≡◌, ℕ, List, [], if◌then◌else◌, None}
 use Rattle.std.specs.Ordering.{nat_cmp}
-use Rattle.std.specs.FinMap as map
 use Rattle.std.specs.FinMap.{FinMap}
 use Rattle.kp_model.specs.State.{State}
 use Rattle.kp_model.specs.Store.{Store}
@@ -19,7 +18,6 @@ use Rattle.kp_step.specs.Choices.{Luck, Choices}
 use Rattle.kp_step.specs.Committing.{hear}
 use Rattle.kp_step.specs.Handing.{Served, serves}
 use Rattle.kp_step.specs.Step.{with_spoken}
-use Rattle.kp_step.specs.Tables.{seated}
 use Rattle.kp_node.specs.declared.joining.Ground.{Ground}
 use Rattle.kp_node.specs.declared.serving.Handed.{Handed}
 use Rattle.kp_node.specs.Deciding.{kept_watches}

@@ -1,36 +1,26 @@
 -- What was handed in goes on its way, or nothing of it does.
-use Rattle.std.proofs.Common.{◌≡◌, ℕ, ◌+◌, ◌-◌, ◌≤◌, ◌<◌, Bool, true, false, List, [], ◌∷◌, ◌++◌, length, take, map, Option, Some, None, Result, Ok, Err, refl, ap, sym, subst, ◌∙◌, arith, append-nil, append_assoc, length-append, nat_lt}
-use Rattle.std.specs.Prelude.{if◌then◌else◌, nat_le, ◌&&◌, IsOk, IsTrue}
+use Rattle.std.proofs.Common.{◌≡◌, ℕ, ◌+◌, ◌-◌, ◌≤◌, true, false, List, [], ◌∷◌, ◌++◌, length, take, map, Option, refl, ap, sym, subst, ◌∙◌, arith, append-nil, append_assoc, length-append}
+use Rattle.std.specs.Prelude.{if◌then◌else◌, IsTrue}
 use Rattle.std.specs.List.{list_all}
 use Rattle.kp_model.specs.declared.entry.Body.{Body}
 use Rattle.kp_model.specs.Grammar.{is_body}
 use Rattle.kp_model.specs.Limits.{last_number}
-use Rattle.kp_model.specs.Taken.{would_take}
 use Rattle.kp_model.specs.Store.{Store, last as last_of, truncated}
 use Rattle.kp_wire.specs.declared.request.Request.{Request}
 use Rattle.kp_watch.specs.declared.watch.Watch.{Watch}
 use Rattle.kp_watch.specs.Watching.{dropped}
 use Rattle.kp_raft.specs.declared.event.RaftOut.{RaftOut}
-use Rattle.kp_raft.specs.Members.{Member, running_of, Steps as RaftSteps}
-use Rattle.kp_raft.specs.Parts.{is_leader}
+use Rattle.kp_raft.specs.Members.{Member}
 use Rattle.kp_snapshot.specs.Snapshots.{Snapshot}
 use Rattle.kp_conn.specs.declared.fed.Fed.{Fed}
 use Rattle.kp_conn.specs.Connection.{Connection, closed, is_lost}
-use Rattle.kp_model.specs.declared.command.Cmd.{Cmd}
-use Rattle.kp_model.specs.declared.entry.Body.TheVariants as body
-use Rattle.kp_ask.specs.Asks.{command}
-use Rattle.kp_conn.specs.declared.phase.Phase.{Phase}
-use Rattle.kp_conn.specs.declared.phase.Phase.TheVariants as phase
-use Rattle.kp_conn.specs.Connection.{joined}
-use Rattle.kp_step.specs.Choices.{is_out, less}
 use Rattle.kp_step.specs.Handing as step
 use Rattle.kp_step.specs.Handing.{Joined, joined_so, joined_all, joined_one, joined_as, joined_write, taking, numbered, unnumbered, handed, is_led}
-use Rattle.kp_step.proofs.Tables.{no}
 use Rattle.kp_node.specs.declared.joining.Ground.{Ground}
 use Rattle.kp_node.specs.declared.serving.Handed.{Handed}
 use Rattle.kp_node.specs.Proposing.{AtDesk, entries_of, Does, proposed_to}
 use Rattle.kp_node.specs.Joining.{IsJoined, ground_in, desk_of, IsBehind, AreJoined}
-use Rattle.kp_node.specs.Serving.{IsServed, IsEmptied, IsFinished, sent_to, Proposes, HandsOver, Serves}
+use Rattle.kp_node.specs.Serving.{IsServed, IsEmptied, IsFinished, Proposes, HandsOver, Serves}
 use Rattle.kp_node.proofs.Joined.{joined_empties}
 use Rattle.kp_node.proofs.Served.{parts_serve, given_up}
 
@@ -91,6 +81,7 @@ module _ (g : Ground) (k : ℕ) (f : Fed) (m n : Member) (x y : Store) (ws : Lis
     served = parts_serve h k ws mid ws' c here c' (desk_of x [] []) (desk_of y bs fs) f from.1 (emptied live) dropped_if (subst (λ s. IsFinished s k f.end mid here ws' c') (ap (λ (z : Store). z.state) from.0.store) finished);
     over = over;
     store = from.0.store;
+    at = from.0;
   }
 
   -- where it finds no memory, there is a request
@@ -102,7 +93,8 @@ module _ (g : Ground) (k : ℕ) (f : Fed) (m n : Member) (x y : Store) (ws : Lis
     desk = desk_of x [] [];
     served = subst (λ (w : List Watch × Connection). IsServed h k ws c (desk_of x [] []) f w.0 w.1 (desk_of x [] [])) (λ i. (sym gone i, sym is i)) (given_up h k ws c here (desk_of x [] []) (desk_of y bs fs) f q qs e from.1);
     over = subst (λ (w : Member × Handed). HandsOver g m [] [] w.1 w.0) (λ i. (sym same i, sym none i)) (record { raft = proposes_none m g.now [] refl; mail = refl });
-    store = back ∙ ap (λ (w : Store). truncated w (last_of x)) from.0.store ∙ ap (λ us. record x { unapplied = us }) (taken_back x.state.applied x.unapplied (entries_of g.term g.now bs)) ∙ ap (λ us. record x { unapplied = us }) (sym (append-nil x.unapplied));
+    store = is_back ∙ ap (λ us. record x { unapplied = us }) (sym (append-nil x.unapplied));
+    at = subst (λ w. AtDesk x g.term g.now w [] (desk_of x [] [])) (sym is_back) begun;
   }
     where
       taken_back : {A : Type 0} (n : ℕ) (us es : List A) → take (n + length us - n) (us ++ es) ≡ us
@@ -111,6 +103,9 @@ module _ (g : Ground) (k : ℕ) (f : Fed) (m n : Member) (x y : Store) (ws : Lis
           take_whole : {A : Type 0} (us es : List A) → take (length us) (us ++ es) ≡ us
           take_whole [] es = refl
           take_whole (u ∷ us) es = ap (λ z. u ∷ z) (take_whole us es)
+
+      is_back : z ≡ x
+      is_back = back ∙ ap (λ (w : Store). truncated w (last_of x)) from.0.store ∙ ap (λ us. record x { unapplied = us }) (taken_back x.state.applied x.unapplied (entries_of g.term g.now bs))
 
   by_requests : (o : Handed) (c' : Connection) (ws' : List Watch) (z : Store) → n ≡ m → o ≡ record { records = []; mail = [] } → c' ≡ closed true here → ws' ≡ dropped ws k → z ≡ truncated y (last_of x) → (bs ≡ [] → fs ≡ [] → ⊥) → (qs : List Request) → f.requests ≡ qs → GivesUp o c' ws' z
   by_requests o c' ws' z same none is gone back some [] e =

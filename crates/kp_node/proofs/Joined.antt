@@ -1,6 +1,6 @@
 -- Requests join one after another.
-use Rattle.std.proofs.Common.{◌≡◌, ℕ, zero, suc, ◌+◌, Bool, true, false, not, List, [], ◌∷◌, ◌++◌, Option, Some, None, Result, Ok, Err, refl, ap, sym, subst, ◌∙◌, length, arith}
-use Rattle.std.specs.Prelude.{if◌then◌else◌, nat_le, nat_lt, ◌&&◌, ◌-◌, OnOk, OnErr, is_some}
+use Rattle.std.proofs.Common.{◌≡◌, ℕ, zero, ◌+◌, Bool, true, false, List, [], ◌∷◌, ◌++◌, Option, Some, None, Result, Ok, Err, refl, ap, sym, subst, ◌∙◌, length, arith}
+use Rattle.std.specs.Prelude.{if◌then◌else◌, nat_le, nat_lt, ◌&&◌, ◌-◌, OnOk}
 use Rattle.kp_model.specs.declared.command.Cmd.{Cmd}
 use Rattle.kp_model.specs.declared.entry.Body.{Body}
 use Rattle.kp_model.specs.declared.entry.Body.TheVariants as body
@@ -14,7 +14,6 @@ use Rattle.kp_wire.specs.declared.request.Request.{Request}
 use Rattle.kp_conn.specs.declared.phase.Phase.{Phase}
 use Rattle.kp_conn.specs.declared.phase.Phase.TheVariants as phase
 use Rattle.kp_conn.specs.declared.waiting.Mark.{Mark}
-use Rattle.kp_conn.specs.declared.waiting.Waiting.{Waiting}
 use Rattle.kp_conn.specs.Connection as conn
 use Rattle.kp_conn.specs.Connection.{Connection, closed, joined, is_lost}
 use Rattle.kp_step.specs.Choices.{is_out, less}
@@ -26,7 +25,7 @@ use Rattle.kp_node.specs.declared.joining.Place.{Place}
 use Rattle.kp_node.specs.Deciding.{one_more}
 use Rattle.kp_node.specs.Serving.{IsEmptied}
 use Rattle.kp_node.specs.Proposing.{AtDesk}
-use Rattle.kp_node.specs.Joining.{joined_with, joined_by, IsJoined, ground_in, desk_of, led, IsBehind, HandsOn, IsHanded, SameBeside, write_number, IsJoinedWrite, IsJoinedOne, JoinsOn, AreJoined, JoinSoFar, EndAlike}
+use Rattle.kp_node.specs.Joining.{joined_with, joined_by, ground_in, desk_of, led, IsBehind, IsHanded, SameBeside, write_number, IsJoinedWrite, IsJoinedOne, AreJoined, JoinSoFar, EndAlike}
 
 -- ---- a body is handed in
 

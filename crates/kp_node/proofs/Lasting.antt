@@ -1,9 +1,9 @@
 -- What stays of a connection that is served: the session that it serves, until it is over, and the watches of the others.
-use Rattle.std.proofs.Common.{◌≡◌, ℕ, zero, suc, Bool, true, false, cond, not, ◌&&◌, ◌||◌, nat_eq, List, [], ◌∷◌, ◌++◌, Option, Some, None, refl, ap, sym, subst, ◌∙◌}
+use Rattle.std.proofs.Common.{◌≡◌, ℕ, Bool, true, false, cond, not, ◌&&◌, ◌||◌, nat_eq, List, [], ◌∷◌, ◌++◌, Option, Some, None, refl, ap, sym, subst, ◌∙◌}
 use Rattle.std.specs.Prelude.{if◌then◌else◌, nat_le}
-use Rattle.std.specs.List.{filter, list_any, AllByRecursion}
 use Rattle.std.specs.FinMap as map
 use Rattle.kp_model.specs.declared.command.Cmd.{Cmd}
+use Rattle.kp_model.specs.declared.entry.Body.{Body}
 use Rattle.kp_model.specs.declared.entry.Body.TheVariants as body
 use Rattle.kp_model.specs.Limits.{last_number}
 use Rattle.kp_model.specs.State.{State}
@@ -18,21 +18,26 @@ use Rattle.kp_conn.specs.declared.phase.Phase.{Phase}
 use Rattle.kp_conn.specs.declared.phase.Phase.TheVariants as phase
 use Rattle.kp_conn.specs.declared.waiting.Mark.{Mark}
 use Rattle.kp_conn.specs.declared.waiting.Waiting.{Waiting}
+use Rattle.kp_conn.specs.declared.first.First.{First}
+use Rattle.kp_conn.specs.declared.first.First.TheVariants as firsts
+use Rattle.kp_conn.specs.Fed.{fed, fed_as, fed_first, with_piece}
 use Rattle.kp_conn.specs.Connection as conn
+use Rattle.kp_wire.specs.declared.connect.ConnectRequest.{ConnectRequest}
 use Rattle.kp_conn.specs.Connection.{Connection, closed, joined, is_over, is_lost}
 use Rattle.kp_step.specs.declared.seat.Seat.{Seat}
 use Rattle.kp_step.specs.Choices.{Luck, is_out, less}
 use Rattle.kp_step.specs.Node.{Seats}
 use Rattle.kp_step.specs.Answers.{Answer, answer_of}
-use Rattle.kp_step.specs.Settling.{Settled, settled, settled_so, settled_by, goes_on, with_queue, put_answer, session_in, is_end, telling, told_by}
+use Rattle.kp_step.specs.Settling.{Settled, settled, settled_so, settled_by, goes_on, with_queue, put_answer, session_in, is_end}
 use Rattle.kp_step.specs.Handing as step
-use Rattle.kp_step.specs.Handing.{Joined, joined_so, joined_all, joined_one, joined_as, joined_write, taking, numbered, unnumbered, handed, is_led, served, ended_by}
+use Rattle.kp_step.specs.Handing.{Joined, joined_so, joined_all, joined_one, joined_as, joined_write, taking, numbered, unnumbered, handed, proposed, is_led, served, served_as, serves, first_served, connects, served_so, is_refused, refusal, opening, origin, Served, ended_by}
 use Rattle.kp_step.specs.Step.{keeps_watches, swept}
 use Rattle.kp_step.proofs.Tables.{no}
-use Rattle.kp_node.specs.Changing.{ChangedAt, AreKeptBut}
+use Rattle.kp_node.specs.Changing.{AreKeptBut}
 use Rattle.kp_node.specs.Deciding.{kept_watches}
 use Rattle.kp_node.specs.Holding.{served_by, AreKept}
-use Rattle.kp_node.proofs.Maps.{same_number, kept_all}
+use Rattle.kp_node.proofs.Maps.{get-put}
+use Rattle.std.specs.Cmp.{nat_eq_equiv}
 use Rattle.kp_node.proofs.Changed.{turn_watches, walks_on, walk_ends}
 use Rattle.kp_node.proofs.Owned.{answer-own}
 
@@ -105,6 +110,43 @@ all_goes g n c d [] = same_phase c c refl
 all_goes g n c d (q ∷ qs) = either_joins (is_out n) (joined_so (closed true c) d) (taking q (joined_all g (less n) (joined_one g c d q).connection (joined_one g c d q).desk qs)) c (shut true c c)
     (then_goes c (joined_one g c d q).connection (joined_all g (less n) (joined_one g c d q).connection (joined_one g c d q).desk qs).connection (one_goes g c d q) (all_goes g (less n) (joined_one g c d q).connection (joined_one g c d q).desk qs))
 
+-- ---- a member that doesn't lead appends nothing
+
+abbrev TakesNone : step.Ground → step.Desk → step.Desk → Type 0
+TakesNone g d d' = g.leads ≡ false → d'.bodies ≡ d.bodies
+
+either_none : (b : Bool) (x y : Joined) (g : step.Ground) (d : step.Desk) → TakesNone g d x.desk → TakesNone g d y.desk → TakesNone g d (if b then x else y).desk
+either_none true x y g d p q = p
+either_none false x y g d p q = q
+
+handed_by : (l : Bool) (g : step.Ground) (d e : step.Desk) (b : Body) → l ≡ false → (if l then e else record d { forwards = d.forwards ++ b ∷ [] }).bodies ≡ d.bodies
+handed_by true g d e b l = no true l refl
+handed_by false g d e b l = refl
+
+pub handed_none : (g : step.Ground) (d : step.Desk) (b : Body) → TakesNone g d (handed g d b)
+unfolding handed
+handed_none g d b l = handed_by g.leads g d (proposed g.term g.now d b) b l
+
+write_none : (g : step.Ground) (c : Connection) (d : step.Desk) (q : Request) (w : Cmd) (p : Phase) → TakesNone g d (joined_write g c d q w p).desk
+write_none g c d q w phase.Fresh = λ l. refl
+write_none g c d q w (phase.Connecting ro) = λ l. refl
+write_none g c d q w (phase.Live s e n) = either_none (is_led g d && nat_le n last_number) (joined_so (joined (numbered q n g.term) c) (handed g d (body.Write s e n w))) (joined_so (joined (unnumbered q) c) d) g d (handed_none g d (body.Write s e n w)) (λ l. refl)
+write_none g c d q w (phase.Closing l) = λ l. refl
+
+as_none : (g : step.Ground) (c : Connection) (d : step.Desk) (q : Request) (o : Option Cmd) → TakesNone g d (joined_as g c d q o).desk
+as_none g c d q None = λ l. refl
+as_none g c d q (Some w) = write_none g c d q w c.phase
+
+one_none : (g : step.Ground) (c : Connection) (d : step.Desk) (q : Request) → TakesNone g d (joined_one g c d q).desk
+unfolding joined_one
+one_none g c d q = as_none g c d q (command q.ask)
+
+all_none : (g : step.Ground) (n : Option ℕ) (c : Connection) (d : step.Desk) (qs : List Request) → TakesNone g d (joined_all g n c d qs).desk
+unfolding joined_all
+all_none g n c d [] = λ l. refl
+all_none g n c d (q ∷ qs) = either_none (is_out n) (joined_so (closed true c) d) (taking q (joined_all g (less n) (joined_one g c d q).connection (joined_one g c d q).desk qs)) g d (λ l. refl)
+    (λ l. all_none g (less n) (joined_one g c d q).connection (joined_one g c d q).desk qs l ∙ one_none g c d q l)
+
 -- ---- what can be answered is
 
 module _ (s : State) (k : ℕ) where
@@ -167,3 +209,121 @@ module _ (g : step.Ground) (luck : Luck) (k : ℕ) (ws : List Watch) (c : Connec
   pub served_own : dropped (served g luck k ws c d f).watches k ≡ dropped ws k
   unfolding served
   served_own = settled_own g.state k luck.answers ws behind behind.queue
+
+  pub served_none : g.leads ≡ false → (served g luck k ws c d f).desk.bodies ≡ d.bodies
+  unfolding served
+  served_none = all_none g luck.requests c d f.requests
+
+-- ---- by the phase
+
+-- what becomes of a connection that is served, of the watches of the others, and of the bodies where it doesn't lead
+pub record Lasts (g : step.Ground) (k : ℕ) (ws : List Watch) (c : Connection) (d : step.Desk) (w : Served) : Type 0 where
+  pub goes : GoesOn c w.connection
+  pub own : dropped w.watches k ≡ dropped ws k
+  pub none : g.leads ≡ false → w.desk.bodies ≡ d.bodies
+
+either_lasts : (b : Bool) (x y : Served) (g : step.Ground) (k : ℕ) (ws : List Watch) (c : Connection) (d : step.Desk) → Lasts g k ws c d x → Lasts g k ws c d y → Lasts g k ws c d (if b then x else y)
+either_lasts true x y g k ws c d p q = p
+either_lasts false x y g k ws c d p q = q
+
+shut_lasts : (l : Bool) (g : step.Ground) (k : ℕ) (ws : List Watch) (c e : Connection) (d : step.Desk) → Lasts g k ws c d (served_so (closed l e) d ws)
+shut_lasts l g k ws c e d = record { goes = shut l c e; own = refl; none = λ f. refl }
+
+stay_lasts : (g : step.Ground) (k : ℕ) (ws : List Watch) (c : Connection) (d : step.Desk) → Lasts g k ws c d (served_so c d ws)
+stay_lasts g k ws c d = record { goes = same_phase c c refl; own = refl; none = λ f. refl }
+
+connects_lasts : (g : step.Ground) (k : ℕ) (draw : List ℕ) (c : Connection) (d : step.Desk) (ws : List Watch) (q : ConnectRequest) → Lasts g k ws c d (connects g k draw c d ws q)
+connects_lasts g k draw c d ws q = either_lasts (is_refused q) _ _ g k ws c d (record { goes = record { over = λ o. refl; session = λ o. no true o refl }; own = refl; none = λ f. refl })
+    (either_lasts (is_led g d) _ _ g k ws c d (record { goes = same_phase c c refl; own = refl; none = handed_none g d (opening (origin g k) draw q) }) (shut_lasts false g k ws c c d))
+
+first_lasts : (g : step.Ground) (k : ℕ) (draw : List ℕ) (text : List ℕ → List ℕ) (c : Connection) (d : step.Desk) (ws : List Watch) (o : Option ConnectRequest) (e : FedEnd) → Lasts g k ws c d (first_served g k draw text c d ws o e)
+first_lasts g k draw text c d ws (Some q) e = connects_lasts g k draw c d ws q
+first_lasts g k draw text c d ws None ends.Ok = stay_lasts g k ws c d
+first_lasts g k draw text c d ws None (ends.Bad at) = shut_lasts false g k ws c c d
+first_lasts g k draw text c d ws None (ends.Word w) = shut_lasts false g k ws c (conn.put (text w) c) d
+
+as_lasts : (g : step.Ground) (luck : Luck) (k : ℕ) (draw : List ℕ) (text : List ℕ → List ℕ) (d : step.Desk) (ws : List Watch) (p : Phase) (c : Connection) (f : Fed) → Lasts g k ws c d (served_as g luck k draw text d ws p c f)
+as_lasts g luck k draw text d ws phase.Fresh c f = first_lasts g k draw text c d ws f.connect f.end
+as_lasts g luck k draw text d ws (phase.Connecting ro) c f = first_lasts g k draw text c d ws f.connect f.end
+as_lasts g luck k draw text d ws (phase.Live s e n) c f = record { goes = served_goes g luck k ws c d f; own = served_own g luck k ws c d f; none = served_none g luck k ws c d f }
+as_lasts g luck k draw text d ws (phase.Closing lost) c f = first_lasts g k draw text c d ws f.connect f.end
+
+-- a connection that is fed goes on
+first_fed : (c w : Connection) (f : First) → c.phase ≡ phase.Fresh → w.phase ≡ c.phase → GoesOn c (fed_first w f).0
+first_fed c w firsts.Part e same = same_phase c w same
+first_fed c w firsts.Wrong e same = same_phase c _ same
+first_fed c w (firsts.Word x) e same = same_phase c _ same
+first_fed c w (firsts.Connect q n) e same = record { over = λ o. no (is_over c.phase) (ap is_over e) o; session = λ o. sym (ap served_by e) }
+
+fed_as_goes : (p : Phase) (c : Connection) (bytes : List ℕ) → c.phase ≡ p → GoesOn c (fed_as p c bytes).0
+fed_as_goes phase.Fresh c bytes e = first_fed c (with_piece c bytes) _ e refl
+fed_as_goes (phase.Connecting ro) c bytes e = same_phase c _ refl
+fed_as_goes (phase.Live s f n) c bytes e = same_phase c _ refl
+fed_as_goes (phase.Closing lost) c bytes e = same_phase c c refl
+
+fed_goes : (c : Connection) (bytes : List ℕ) → GoesOn c (fed c bytes).0
+unfolding fed
+fed_goes c bytes = fed_as_goes c.phase c bytes refl
+
+pub serves_lasts : (g : step.Ground) (luck : Luck) (k : ℕ) (draw : List ℕ) (text : List ℕ → List ℕ) (d : step.Desk) (ws : List Watch) (c : Connection) (bytes : List ℕ) → Lasts g k ws c d (serves g luck k draw text d ws c bytes)
+unfolding serves
+serves_lasts g luck k draw text d ws c bytes =
+    let l = as_lasts g luck k draw text d ws c.phase (fed c bytes).0 (fed c bytes).1 in
+    record { goes = then_goes c (fed c bytes).0 _ (fed_goes c bytes) l.goes; own = l.own; none = l.none }
+
+-- ---- the watches of a connection that is given up go
+
+abbrev conn_of : Watch → ℕ
+conn_of w = w.conn
+
+module _ (m : Seats) (k : ℕ) (d : Seat) where
+  abbrev new : Seats
+  new = map.insert m k d
+
+  here : map.get new k ≡ Some d
+  here = get-put m k d k ∙ ap (λ b. cond b (Some d) (map.get m k)) (nat_eq_equiv.refl k)
+
+  elsewhere : (q : ℕ) → nat_eq q k ≡ false → map.get new q ≡ map.get m q
+  elsewhere q e = get-put m k d q ∙ ap (λ b. cond b (Some d) (map.get m q)) (nat_eq_equiv.symm k q ∙ e)
+
+  -- those of the others are kept
+  kept_dropped : (ws : List Watch) → AreKept m ws → AreKept m (dropped ws k)
+  kept_dropped [] h = tt
+  kept_dropped (w ∷ ws) h = at (nat_eq w.conn k) (kept_dropped ws h.1) where
+    at : (b : Bool) → AreKept m (dropped ws k) → AreKept m (cond (not b) (w ∷ dropped ws k) (dropped ws k))
+    at true rest = rest
+    at false rest = (h.0, rest)
+
+  but_one : (vs : List Watch) → AreKept m (dropped vs k) → AreKeptBut (k ∷ []) new vs
+  but_one [] h = tt
+  but_one (w ∷ vs) h = at (nat_eq w.conn k) refl h (but_one vs) where
+    any_true : (b : Bool) → (b || true) ≡ true
+    any_true true = refl
+    any_true false = refl
+
+    at : (b : Bool) → nat_eq w.conn k ≡ b → AreKept m (cond (not b) (w ∷ dropped vs k) (dropped vs k)) → (AreKept m (dropped vs k) → AreKeptBut (k ∷ []) new vs) → AreKeptBut (k ∷ []) new (w ∷ vs)
+    at true e i rest = (ap (λ b. keeps_watches (map.get new w.conn) || (b || false)) e ∙ any_true (keeps_watches (map.get new w.conn)), rest i)
+    at false e i rest = (ap (λ b. b || (nat_eq w.conn k || false)) (ap keeps_watches (elsewhere w.conn e) ∙ i.0), rest i.1)
+
+  turned : (p : Phase) (vs : List Watch) → kept_watches k p vs ≡ turn_watches (not (is_lost p)) k vs
+  turned p vs = by (is_lost p) where
+    by : (l : Bool) → (if l then dropped vs k else vs) ≡ turn_watches (not l) k vs
+    by true = refl
+    by false = refl
+
+  pub swept_so : (ws vs : List Watch) → AreKept m ws → dropped vs k ≡ dropped ws k → kept_watches k d.connection.phase vs ≡ swept new vs
+  swept_so ws vs h own =
+      let all = but_one vs (subst (AreKept m) (sym own) (kept_dropped ws h)) in
+      let after = kept_watches k d.connection.phase vs in
+      let is : after ≡ turn_watches (keeps_watches (map.get new k)) k vs = turned d.connection.phase vs ∙ ap (λ o. turn_watches (keeps_watches o) k vs) (sym here) in
+      walk_ends new [] after vs refl (walks_on new k [] (k ∷ []) vs vs after refl is (refl, all))
+
+kept_swept : (m : Seats) (vs : List Watch) → AreKept m (swept m vs)
+kept_swept m [] = tt
+kept_swept m (w ∷ vs) = at (keeps_watches (map.get m w.conn)) refl (kept_swept m vs) where
+  at : (b : Bool) → keeps_watches (map.get m w.conn) ≡ b → AreKept m (swept m vs) → AreKept m (cond b (w ∷ swept m vs) (swept m vs))
+  at true e rest = (e, rest)
+  at false e rest = rest
+
+pub swept_kept : (m : Seats) (k : ℕ) (d : Seat) (ws vs : List Watch) → AreKept m ws → dropped vs k ≡ dropped ws k → AreKept (map.insert m k d) (kept_watches k d.connection.phase vs)
+swept_kept m k d ws vs h own = subst (AreKept (map.insert m k d)) (sym (swept_so m k d ws vs h own)) (kept_swept (map.insert m k d) vs)

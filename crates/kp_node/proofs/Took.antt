@@ -1,9 +1,8 @@
 -- A connection takes bytes by its phase.
-use Rattle.std.proofs.Common.{◌≡◌, ℕ, Bool, true, false, List, [], ◌∷◌, ◌++◌, Option, Some, None, refl, ap, sym, subst, ◌∙◌}
+use Rattle.std.proofs.Common.{◌≡◌, ℕ, false, List, [], refl, ap, sym, subst, ◌∙◌}
 use Rattle.kp_model.specs.Store.{Store}
 use Rattle.kp_raft.specs.Members.{Member}
 use Rattle.kp_watch.specs.declared.watch.Watch.{Watch}
-use Rattle.kp_watch.specs.Watching.{dropped}
 use Rattle.kp_conn.specs.declared.fed.Fed.{Fed}
 use Rattle.kp_conn.specs.declared.phase.Phase.{Phase}
 use Rattle.kp_conn.specs.declared.phase.Phase.TheVariants as phase
@@ -16,7 +15,7 @@ use Rattle.kp_node.specs.declared.joining.Ground.{Ground}
 use Rattle.kp_node.specs.declared.serving.Handed.{Handed}
 use Rattle.kp_node.specs.Deciding.{kept_watches}
 use Rattle.kp_node.specs.Joining.{ground_in, desk_of}
-use Rattle.kp_node.specs.Proposing.{entries_of}
+use Rattle.kp_node.specs.Proposing.{AtDesk}
 use Rattle.kp_node.specs.Serving.{HandsOver, Serves}
 use Rattle.kp_node.specs.TakingBytes.{taken, Takes}
 
@@ -51,5 +50,5 @@ module _ (g : Ground) (k : ℕ) (draw : List ℕ) (text : List ℕ → List ℕ)
         connection = h.served.1.0 ∙ ap (λ (w : Served). w.connection) (sym same);
         watches = h.served.1.2 ∙ ap (λ (w : Served). kept_watches k c'.phase w.watches) (sym same);
         over = subst (λ (d : step.Desk). HandsOver g m d.bodies d.forwards o n) desk h.over;
-        store = h.store ∙ ap (λ (d : step.Desk). record x { unapplied = x.unapplied ++ entries_of g.term g.now d.bodies }) desk;
+        at = subst (λ (d : step.Desk). AtDesk x g.term g.now y d.bodies d) desk h.at;
       }

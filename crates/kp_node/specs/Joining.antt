@@ -1,5 +1,5 @@
 -- Requests join the queue of a connection, by some luck.
-use Rattle.std.specs.Prelude.{◌≡◌, ◌-◌, ◌&&◌, nat_le, if◌then◌else◌, ℕ, Bool, true, false, List, [], drop, Option, Some, None}
+use Rattle.std.specs.Prelude.{◌≡◌, ◌-◌, ◌&&◌, nat_le, if◌then◌else◌, ℕ, Bool, true, List, [], Option, Some, None}
 use Rattle.kp_model.specs.declared.command.Cmd.{Cmd}
 use Rattle.kp_model.specs.declared.entry.Body.{Body}
 use Rattle.kp_model.specs.Limits.{last_number}
@@ -8,7 +8,7 @@ use Rattle.kp_model.specs.Store.{Store, latest as latest_of, last as last_of}
 use Rattle.kp_wire.specs.declared.request.Request.{Request}
 use Rattle.kp_conn.specs.declared.phase.Phase.{Phase}
 use Rattle.kp_conn.specs.declared.phase.Phase.TheVariants as phase
-use Rattle.kp_conn.specs.Connection.{Connection, is_lost, closed}
+use Rattle.kp_conn.specs.Connection.{Connection, closed}
 use Rattle.kp_step.specs.Handing as step
 use Rattle.kp_step.specs.Handing.{Joined, joined_all, joined_one, joined_write, handed, is_led}
 use Rattle.kp_node.specs.declared.joining.Ground.{Ground}

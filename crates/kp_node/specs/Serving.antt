@@ -1,5 +1,5 @@
 -- What was read of a live connection is served in two parts: its requests join, and then what can be answered is.
-use Rattle.std.specs.Prelude.{◌≡◌, ◌++◌, ℕ, true, false, List, [], ◌∷◌, map, Option, if◌then◌else◌}
+use Rattle.std.specs.Prelude.{◌≡◌, ◌++◌, ℕ, true, List, [], ◌∷◌, map, Option, if◌then◌else◌}
 use Rattle.kp_model.specs.declared.entry.Body.{Body}
 use Rattle.kp_model.specs.State.{State}
 use Rattle.kp_model.specs.Store.{Store}
@@ -23,7 +23,7 @@ use Rattle.kp_node.specs.Deciding.{kept_watches}
 use Rattle.kp_node.specs.declared.joining.Ground.{Ground}
 use Rattle.kp_node.specs.declared.serving.Handed.{Handed}
 use Rattle.kp_node.specs.Joining.{IsJoined, ground_in, desk_of}
-use Rattle.kp_node.specs.Proposing.{entries_of, proposed_to}
+use Rattle.kp_node.specs.Proposing.{AtDesk, entries_of, proposed_to}
 
 -- by some luck this is what was read of the connection, served
 abbrev pub IsServed : step.Ground → ℕ → List Watch → Connection → step.Desk → Fed → List Watch → Connection → step.Desk → Type 0
@@ -75,3 +75,4 @@ pub record Serves (g : Ground) (k : ℕ) (f : Fed) (m : Member) (x : Store) (ws 
   pub served : IsServed (ground_in g x.state) k ws c (desk_of x [] []) f ws' c' desk
   pub over : HandsOver g m desk.bodies desk.forwards o n
   pub store : y ≡ record x { unapplied = x.unapplied ++ entries_of g.term g.now desk.bodies }
+  pub at : AtDesk x g.term g.now y desk.bodies desk

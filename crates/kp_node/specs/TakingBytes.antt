@@ -1,7 +1,6 @@
 -- A connection takes bytes: what it becomes, and what a node's parts do.
-use Rattle.std.specs.Prelude.{◌≡◌, ◌++◌, ℕ, List, [], ◌∷◌, if◌then◌else◌, Option, Some, None}
+use Rattle.std.specs.Prelude.{◌≡◌, ℕ, List, [], if◌then◌else◌, None}
 use Rattle.std.specs.Ordering.{nat_cmp}
-use Rattle.std.specs.FinMap as map
 use Rattle.std.specs.FinMap.{FinMap}
 use Rattle.kp_model.specs.State.{State}
 use Rattle.kp_model.specs.Store.{Store}
@@ -19,12 +18,11 @@ use Rattle.kp_step.specs.Choices.{Luck, Choices}
 use Rattle.kp_step.specs.Committing.{hear}
 use Rattle.kp_step.specs.Handing.{Served, serves}
 use Rattle.kp_step.specs.Step.{with_spoken}
-use Rattle.kp_step.specs.Tables.{seated}
 use Rattle.kp_node.specs.declared.joining.Ground.{Ground}
 use Rattle.kp_node.specs.declared.serving.Handed.{Handed}
 use Rattle.kp_node.specs.Deciding.{kept_watches}
 use Rattle.kp_node.specs.Joining.{ground_in, desk_of}
-use Rattle.kp_node.specs.Proposing.{entries_of}
+use Rattle.kp_node.specs.Proposing.{AtDesk}
 use Rattle.kp_node.specs.Serving.{HandsOver}
 
 -- what the bytes make of connection k, by this luck
@@ -37,7 +35,7 @@ pub record Takes (g : Ground) (k : ℕ) (draw : List ℕ) (text : List ℕ → L
   pub connection : c' ≡ (taken g luck k draw text x ws c bytes).connection
   pub watches : ws' ≡ kept_watches k c'.phase (taken g luck k draw text x ws c bytes).watches
   pub over : HandsOver g m (taken g luck k draw text x ws c bytes).desk.bodies (taken g luck k draw text x ws c bytes).desk.forwards o n
-  pub store : y ≡ record x { unapplied = x.unapplied ++ entries_of g.term g.now (taken g luck k draw text x ws c bytes).desk.bodies }
+  pub at : AtDesk x g.term g.now y (taken g luck k draw text x ws c bytes).desk.bodies (taken g luck k draw text x ws c bytes).desk
 
 -- the connections with this one at k, which serves no session any more where it is over
 abbrev pub seated_at : Seating Seat → ℕ → Seat → Seating Seat

@@ -1,4 +1,4 @@
-use Rattle.std.proofs.Common.{◌≡◌, ◌++◌, ◌∷◌, [], sym, subst}
+use Rattle.std.proofs.Common.{sym, subst}
 use Rattle.kp_node.specs.Joining.{IsHanded}
 use Rattle.kp_node.proofs.Joined.{handed_in, sent_on, on_ok}
 use Rattle.kp_node.proofs.joining.hand.Goals as goal

@@ -1,4 +1,4 @@
-use Rattle.std.proofs.Common.{◌∙◌, refl, sym, subst, rules}
+use Rattle.std.proofs.Common.{◌∙◌, sym, subst, rules}
 use Rattle.std.specs.Vec.Iter.{into_iter_items}
 use Rattle.kp_node.specs.Joining.{JoinSoFar}
 use Rattle.kp_node.proofs.Joined.{begins, goes_on, ends_lost, all_joined, more_left, none_left}

@@ -1,4 +1,4 @@
-use Rattle.std.proofs.Common.{◌≡◌, ◌∙◌, sym, ap}
+use Rattle.std.proofs.Common.{◌∙◌, sym, ap}
 use Rattle.kp_conn.specs.declared.waiting.Waiting.{Waiting}
 use Rattle.kp_conn.specs.Connection.{joined}
 use Rattle.kp_node.proofs.Joined.{as_plain, as_write, on_ok}

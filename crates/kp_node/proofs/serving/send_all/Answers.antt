@@ -1,8 +1,8 @@
-use Rattle.std.proofs.Common.{◌≡◌, ◌∙◌, ◌++◌, ap, sym, rules, ◌∷◌, []}
+use Rattle.std.proofs.Common.{◌∙◌, ◌++◌, ap, ◌∷◌, []}
 use Rattle.std.specs.Vec.Iter.{into_iter_items}
 use Rattle.kp_node.specs.Serving.{sent_to}
-use Rattle.kp_node.proofs.Joined.{more_left, none_left}
-use Rattle.kp_node.proofs.HandedOver.{more_sent, none_sent}
+use Rattle.kp_node.proofs.Joined.{more_left}
+use Rattle.kp_node.proofs.HandedOver.{more_sent}
 use Rattle.kp_node.proofs.serving.send_all.Goals as goal
 
 pub loop-body-preserved : goal.loop-body-preserved

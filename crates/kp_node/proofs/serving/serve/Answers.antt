@@ -1,5 +1,5 @@
-use Rattle.std.proofs.Common.{◌≡◌, ◌∙◌, sym, ap, subst, ◌≤◌, false, refl}
-use Rattle.kp_model.specs.Store.{Store, truncated, last as last_of}
+use Rattle.std.proofs.Common.{◌∙◌, sym, ap, subst, ◌≤◌, false, refl}
+use Rattle.kp_model.specs.Store.{truncated, last as last_of}
 use Rattle.kp_model.specs.Limits.{last_number}
 use Rattle.kp_step.proofs.Tables.{no}
 use Rattle.kp_node.specs.Serving.{IsFinished}

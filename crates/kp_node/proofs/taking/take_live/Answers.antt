@@ -1,4 +1,3 @@
-use Rattle.std.proofs.Common.{◌≡◌, ◌∙◌, sym, ap}
 use Rattle.kp_node.proofs.Took.{fed_live, takes_live}
 use Rattle.kp_node.proofs.taking.take_live.Goals as goal
 

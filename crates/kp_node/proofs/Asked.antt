@@ -297,7 +297,7 @@ forward_so x y now term from b out o r e ch =
 -- ---- the step at these events
 
 module _ (words : Words) (ch : Choices) (x : Node) (now : ℕ) where
-  none_installed : (bs : List Body) → installed {I = Snapshot} x (propose_if now bs) ≡ None
+  pub none_installed : (bs : List Body) → installed {I = Snapshot} x (propose_if now bs) ≡ None
   unfolding installed
   none_installed [] = refl
   none_installed (b ∷ bs) = refl

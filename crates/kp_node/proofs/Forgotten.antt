@@ -1,6 +1,6 @@
 -- What was heard is taken back, and what ended is forgotten.
-use Rattle.std.proofs.Common.{◌≡◌, ℕ, Bool, true, false, cond, Option, Some, None, is_some, refl, ap, sym, subst, ◌∙◌}
-use Rattle.std.specs.Prelude.{nat_eq, Result, Ok, Err, IsOk, OnOk}
+use Rattle.std.proofs.Common.{Bor, ◌≡◌, ℕ, Bool, true, false, cond, Option, Some, None, is_some, refl, ap, sym, subst, ◌∙◌}
+use Rattle.std.specs.Prelude.{nat_eq, Result, Ok, Err, IsOk, OnOk, option_copied}
 use Rattle.std.specs.Ordering.{nat_cmp}
 use Rattle.std.specs.Cmp.{nat_eq_equiv}
 use Rattle.std.specs.FinMap as map
@@ -11,9 +11,11 @@ use Rattle.kp_model.specs.declared.entry.Body.{Body}
 use Rattle.kp_model.specs.declared.entry.Body.TheVariants as body
 use Rattle.kp_model.specs.declared.reply.Reply.{Reply}
 use Rattle.kp_model.specs.declared.reply.Reply.TheVariants as reply
+use Rattle.kp_model.specs.declared.session.Session.{Session}
 use Rattle.kp_model.specs.State.{State}
 use Rattle.kp_expiry.specs.declared.heard.Heard.{Heard}
-use Rattle.kp_step.specs.Committing.{heard_behind}
+use Rattle.kp_step.specs.Node.{heard_at}
+use Rattle.kp_step.specs.Committing.{hear_in, heard_behind}
 use Rattle.kp_node.specs.Forgetting.{heard_before, ended_by, forgotten, opens, EndIsForgotten}
 use Rattle.kp_node.specs.Welcoming.{asks_session}
 use Rattle.kp_node.proofs.Maps.{no, get-put, get-taken, same, same_number}
@@ -37,6 +39,20 @@ module _ {X : Type 0} (m : FinMap nat_cmp X) (k : ℕ) (a : X) where
 
 pub there_now : {X : Type 0} (old m : FinMap nat_cmp X) (k : ℕ) (a : X) → old ≡ map.insert m k a → map.contains_key old k ≡ true
 there_now old m k a e = ap (λ z. map.contains_key z k) e ∙ ap is_some (get-put m k a k ∙ ap (λ b. cond b (Some a) (map.get m k)) (nat_eq_equiv.refl k))
+
+-- what is lent is there exactly where it is
+pub seen : {X : Type 0} (r : Option (Bor X)) (o : Option X) (b : Bool) → option_copied r ≡ o → b ≡ is_some r → is_some o ≡ b
+seen None o b e f = sym (ap is_some e) ∙ sym f
+seen (Some x) o b e f = sym (ap is_some e) ∙ sym f
+
+-- a session of the state that was heard stands in its place, and of another nothing was heard
+pub heard_in : (now id : ℕ) (o : Option Session) (m e : FinMap nat_cmp Heard) → is_some o ≡ true → e ≡ hear_in now id o m → (h : Heard) × (e ≡ map.insert m id h)
+heard_in now id None m e there is = no false refl there
+heard_in now id (Some x) m e there is = (heard_at now id x.timeout, is)
+
+pub unheard_in : (now id : ℕ) (o : Option Session) (m e : FinMap nat_cmp Heard) → is_some o ≡ false → e ≡ hear_in now id o m → e ≡ m
+unheard_in now id None m e none is = is
+unheard_in now id (Some x) m e none is = no true none refl
 
 -- ---- the end of a session
 

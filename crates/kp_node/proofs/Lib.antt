@@ -33,6 +33,7 @@ pub mod Changed
 pub mod Fired
 pub mod Meant
 pub mod Lasting
+pub mod Fed
 pub mod Took
 pub mod Asked
 pub mod Meanings

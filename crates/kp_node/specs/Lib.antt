@@ -28,6 +28,7 @@ pub mod Replacing
 pub mod Proposing
 pub mod Changing
 pub mod TakingBytes
+pub mod Clients
 pub mod Firing
 pub mod Meaning
 pub mod Informing

@@ -29,8 +29,8 @@ fn is_ready(seats: &Seats<Seat>, conn: u64) -> bool
     }
 }
 
-// Whether a connection is there and was given up.
-fn is_given_up(seats: &Seats<Seat>, conn: u64) -> bool
+/// Whether a connection is there and was given up.
+pub(crate) fn is_given_up(seats: &Seats<Seat>, conn: u64) -> bool
     ensures { result ≡ was_given_up (map.get seats.now.seats conn) }
 {
     match seats.get(conn) {

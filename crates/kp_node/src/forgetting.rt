@@ -46,8 +46,8 @@ pub(crate) fn hear_welcome(
     }
 }
 
-// The session was heard so before. Takes no memory.
-fn put_back(expiry: &mut Expiry, session: u64, before: Option<Heard>)
+/// The session was heard so before. Takes no memory.
+pub(crate) fn put_back(expiry: &mut Expiry, session: u64, before: Option<Heard>)
     ensures { (m : FinMap nat_cmp Heard) (h : Heard) → expiry.old ≡ insert m session h → before ≡ get m session → expiry.new ≡ m }
 {
     match before {

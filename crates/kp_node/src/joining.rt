@@ -3,14 +3,17 @@
 ghost use Rattle.std.specs.Prelude.{◌≡◌, ◌≤◌, false, IfSome, OnOk, OnErr};
 ghost use Rattle.kp_model.specs.declared.entry.Body.TheVariants as bodies_;
 ghost use Rattle.kp_model.specs.Limits.{last_number};
+ghost use Rattle.kp_raft.specs.Parts.{is_leader};
 ghost use Rattle.kp_step.specs.Handing.{numbered as numbered_as, unnumbered as unnumbered_as};
 ghost use Rattle.kp_node.specs.Joining.{led, write_number, IsHanded, IsJoinedWrite, IsJoinedOne, AreJoined, SameBeside, EndAlike};
 
-use crate::proposing::hand_in;
+use crate::proposing::{hand_in, leads};
 use kp_ask::command;
 use kp_conn::{Conn, Mark, Phase, Waiting};
 use kp_model::limits::LAST_NUMBER;
 use kp_model::{Body, Cmd, Items, NoMemory};
+use kp_raft::Raft;
+use kp_snapshot::Image;
 use kp_storage::Storage;
 use kp_wire::Request;
 use std::alloc::Global;
@@ -29,6 +32,20 @@ pub struct Ground {
 
     /// The time of the event, in milliseconds.
     pub now: u64,
+}
+
+/// The ground of a member in this run of its node, at this time, in milliseconds.
+pub(crate) fn ground_at(raft: &Raft<Image>, boot: u64, now: u64) -> Ground
+    ensures { result ≡ record { me = raft.now.node; boot = boot; term = raft.now.held.term; leader = raft.now.vars.leader; leads = is_leader raft.now.vars.role; now = now } }
+{
+    Ground {
+        me: raft.node(),
+        boot,
+        term: raft.term(),
+        leader: raft.leader(),
+        leads: leads(raft),
+        now,
+    }
 }
 
 impl Ground {

@@ -12,6 +12,7 @@ mod answering;
 mod append_events;
 mod appends;
 mod changing;
+mod client_events;
 mod coming;
 mod concerned;
 mod connect;

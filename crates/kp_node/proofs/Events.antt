@@ -6,6 +6,10 @@ use Rattle.kp_step.specs.Choices.{Choices}
 use Rattle.kp_step.specs.Node.{Node}
 use Rattle.kp_step.specs.Asking.{Words, asked, reacted, installed}
 use Rattle.kp_step.specs.Step.{accept_turn, hangup_turn, drain_turn, turned, step}
+use Rattle.kp_raft.specs.declared.event.RaftEvent.TheVariants as raft
+use Rattle.kp_node.specs.Foreseen.{reaction}
+use Rattle.kp_node.specs.Parts.{Parts, node_of}
+use Rattle.kp_node.specs.Reactions.{raft_step}
 use Rattle.kp_node.specs.Steps.{images, aside}
 use Rattle.kp_node.specs.Timing.{beat_step, snapshot_step}
 
@@ -25,6 +29,10 @@ module _ (words : Words) (ch : Choices) (x : Node) (now : ℕ) where
   pub at_beat : step words images ch x (record { now = now; kind = kind.Beat }) ≡ beat_step ch x
   unfolding step asked reacted installed turned
   at_beat = refl
+
+  pub at_timeout : (p : Parts) → step words images ch (node_of p) (record { now = now; kind = kind.Timeout }) ≡ raft_step ch (node_of p) now kind.Timeout (reaction p.member raft.Timeout)
+  unfolding step asked reacted installed turned
+  at_timeout p = refl
 
   pub at_snapshot : step words images ch x (record { now = now; kind = kind.Snapshot }) ≡ snapshot_step ch x
   unfolding step asked reacted installed turned

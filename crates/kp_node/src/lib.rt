@@ -44,6 +44,7 @@ mod rising;
 mod said;
 mod serving;
 mod settling;
+mod spoken;
 mod start;
 mod taking;
 mod telling;

@@ -44,3 +44,5 @@ pub mod Ends
 pub mod Greets
 pub mod Forgotten
 pub mod Writes
+pub mod Naming
+pub mod Delivered

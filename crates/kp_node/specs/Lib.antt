@@ -38,3 +38,5 @@ pub mod Ending
 pub mod Greeting
 pub mod Forgetting
 pub mod Written
+pub mod Naming
+pub mod Delivering

@@ -45,3 +45,5 @@ pub mod Greets
 pub mod Forgotten
 pub mod Writes
 pub mod Noted
+pub mod Naming
+pub mod Delivered

@@ -39,3 +39,5 @@ pub mod Greeting
 pub mod Forgetting
 pub mod Written
 pub mod Spoken
+pub mod Naming
+pub mod Delivering

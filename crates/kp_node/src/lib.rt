@@ -8,6 +8,7 @@
 #![tactic(auto)]
 
 mod ahead;
+mod answer_events;
 mod answering;
 mod append_events;
 mod appends;
@@ -16,6 +17,7 @@ mod coming;
 mod concerned;
 mod connect;
 mod deadlines;
+mod delivering;
 mod ending;
 mod entry;
 mod expiring;

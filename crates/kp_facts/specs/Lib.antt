@@ -1,0 +1,4 @@
+pub mod Groups
+pub mod Watched
+pub mod Tree
+pub mod Facts

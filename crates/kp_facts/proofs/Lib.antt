@@ -1,4 +1,6 @@
+pub mod Asked
 pub mod Connected
+pub mod Counted
 pub mod Grouped
 pub mod Gathered
 pub mod Listing

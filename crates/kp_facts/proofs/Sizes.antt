@@ -14,7 +14,7 @@ use Rattle.kp_layers.proofs.Listed.{sorted_keys}
 use Rattle.kp_facts.specs.Tree.{size_of, size_at, size_in}
 use Rattle.kp_facts.proofs.Grouped.{found_all}
 
-find_is : (q : List ℕ) (es : List (List ℕ × Node)) → find path_cmp q es ≡ lookup (eq_by_cmp path_cmp q) es
+pub find_is : (q : List ℕ) (es : List (List ℕ × Node)) → find path_cmp q es ≡ lookup (eq_by_cmp path_cmp q) es
 find_is q [] = refl
 find_is q (e ∷ es) = ap (cond (eq_by_cmp path_cmp q e.0) (Some e.1)) (find_is q es)
 

@@ -5,10 +5,12 @@
 #![tactic(auto)]
 
 mod groups;
+mod laws;
 mod seated;
 mod tree;
 mod watching;
 
+pub use laws::asked_tell;
 pub use seated::conns;
 pub use tree::{owners, size};
 pub use watching::{watch_counts, watched, watchers};

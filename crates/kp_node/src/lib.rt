@@ -19,6 +19,7 @@ mod deadlines;
 mod ending;
 mod entry;
 mod expiring;
+mod facts;
 mod filling;
 mod firing;
 mod foreseen;

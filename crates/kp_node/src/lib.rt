@@ -21,6 +21,7 @@ mod delivering;
 mod ending;
 mod entry;
 mod expiring;
+mod facts;
 mod filling;
 mod firing;
 mod foreseen;

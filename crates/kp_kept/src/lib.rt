@@ -1,0 +1,4 @@
+//! A node kept in its home.
+#![tactic(auto)]
+
+mod homes;

@@ -3,4 +3,5 @@ pub mod Rules
 pub mod Leads
 pub mod Turned
 pub mod Waits
-pub mod Batches
+pub mod Found
+pub mod Joining

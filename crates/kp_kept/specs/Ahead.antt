@@ -1,9 +1,14 @@
 -- A node ahead of its home: what waits to be kept, and how it leads from what the home would open with to what the node is.
-use Rattle.std.specs.Prelude.{◌≡◌, ℕ, Bool, true, false, cond, List, [], ◌++◌, Option, Some, None, is_some}
+use Rattle.std.specs.Prelude.{◌≡◌, ℕ, Bool, true, false, cond, List, [], ◌∷◌, ◌++◌, Option, Some, None, is_some}
 use Rattle.kp_entry.specs.declared.record.Record.{Record}
 use Rattle.kp_snapshot.specs.Snapshots.{Snapshot}
 use Rattle.kp_step.specs.Node.{Node}
 use Rattle.kp_homes.specs.Opening.{Start, Found, are_fit, started}
+
+-- the records of several steps, one behind the other
+abbrev pub all_records : List (List Record) → List Record
+all_records [] = []
+all_records (rs ∷ rss) = rs ++ all_records rss
 
 -- what steps want kept: their records, or the image that stands for all that is wanted up to the last of them
 pub record Waiting : Type 0 where

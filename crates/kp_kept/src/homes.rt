@@ -1,18 +1,14 @@
 //! The two calls by which a home keeps what waits, in the words of what opening finds.
 
-ghost use Rattle.std.specs.Prelude.{ℕ, Option, Some, Ok, ◌≡◌, ◌+◌, ◌^◌, ◌<◌, ◌≤◌, ◌↔◌, true, false, cond, length, OnOk, IsErrOf};
-ghost use Rattle.kp_io.specs.Crash.{HasRoom};
+ghost use Rattle.std.specs.Prelude.{ℕ, ◌≡◌, ◌+◌, ◌^◌, ◌<◌, ◌↔◌, false, cond, length, OnOk, IsErrOf};
 ghost use Rattle.kp_io.specs.Homes.{home_faults};
 ghost use Rattle.kp_entry.specs.Records.{has_base, spelled};
-ghost use Rattle.kp_snapshot.specs.Snapshots.{Snapshot, images};
+ghost use Rattle.kp_snapshot.specs.Snapshots.{images};
 ghost use Rattle.kp_homes.specs.declared.home.Home.{Home};
 ghost use Rattle.kp_homes.specs.declared.fail.HomeFail.TheVariants as home_fail;
 ghost use Rattle.kp_homes.specs.Stands.{IsReady, slot_number};
-ghost use Rattle.kp_homes.specs.Opening.{Found, are_fit, blank_start, with_records};
-ghost use Rattle.kp_homes.specs.Homes.{Keeps};
-ghost use Rattle.kp_homes.specs.Replays.{made_found};
 ghost use Rattle.kp_kept.specs.Answers.{Costs};
-ghost use Rattle.kp_kept.specs.Finding.{FindsEither, FindsOnly};
+ghost use Rattle.kp_kept.specs.Finding.{LeavesBatch, HasBatch, LeavesImage, HasImage};
 
 use kp_entry::Records;
 use kp_homes::{Home, HomeFail};
@@ -23,10 +19,8 @@ use kp_snapshot::Image;
 pub(crate) fn keep_batch<H: Disk>(home: &mut Home<H>, records: &Records) -> Result<(), HomeFail>
     requires ready { IsReady home.old.second (H.held home.old.disks.j0) (H.held home.old.disks.j1) home.old.journal }
     requires no_base { has_base records.now ≡ false }
-    ensures crash { (f : Found) → Keeps H.held H.past home.old.disks home.old.second home.old.journal f → are_fit f.start.held records.now ≡ true → HasRoom home.new.disks.moments
-        → FindsEither home.old.journal.head.node H.past home.old.disks.moments home.new.disks f (with_records records.now f) }
-    ensures keeps { (f : Found) → Keeps H.held H.past home.old.disks home.old.second home.old.journal f → are_fit f.start.held records.now ≡ true → HasRoom home.new.disks.moments
-        → OnOk result (Keeps H.held H.past home.new.disks home.new.second home.new.journal (with_records records.now f)) }
+    ensures crash { LeavesBatch H.held H.past home.old home.new records.now }
+    ensures keeps { OnOk result (HasBatch H.held H.past home.old home.new records.now) }
     ensures node { OnOk result (home.new.journal.head.node ≡ home.old.journal.head.node) }
     ensures ready { OnOk result (IsReady home.new.second (H.held home.new.disks.j0) (H.held home.new.disks.j1) home.new.journal) }
     ensures full { (slot len : ℕ) → IsErrOf result (home_fail.Full slot len) ↔ ((2 ^ 40 < len) × (len ≡ home.old.journal.gate + 6 + length (spelled records.now)) × (slot ≡ slot_number home.old.second)) }
@@ -42,11 +36,8 @@ pub(crate) fn keep_image<H: Disk>(
     rest: &Records,
 ) -> Result<(), HomeFail>
     requires no_base { has_base rest.now ≡ false }
-    ensures crash { (f : Found) → Keeps H.held H.past home.old.disks home.old.second home.old.journal f → are_fit (blank_start (Some image.now)).held rest.now ≡ true → HasRoom home.new.disks.moments → home.old.journal.head.generation < 2 ^ 62
-        → FindsEither home.old.journal.head.node H.past home.old.disks.moments home.new.disks f (made_found (Some image.now) rest.now) }
-    ensures keeps { (f : Found) → Keeps H.held H.past home.old.disks home.old.second home.old.journal f → are_fit (blank_start (Some image.now)).held rest.now ≡ true → HasRoom home.new.disks.moments → home.old.journal.head.generation < 2 ^ 62
-        → OnOk result (Keeps H.held H.past home.new.disks home.new.second home.new.journal (made_found (Some image.now) rest.now)) }
-    ensures node { (f : Found) → Keeps H.held H.past home.old.disks home.old.second home.old.journal f → HasRoom home.new.disks.moments → home.old.journal.head.generation < 2 ^ 62 → OnOk result (home.new.journal.head.node ≡ home.old.journal.head.node) }
+    ensures crash { LeavesImage H.held H.past home.old home.new image.now rest.now }
+    ensures keeps { OnOk result (HasImage H.held H.past home.old home.new image.now rest.now) }
     ensures ready { OnOk result (IsReady home.new.second (H.held home.new.disks.j0) (H.held home.new.disks.j1) home.new.journal) }
     ensures full { (slot len : ℕ) → IsErrOf result (home_fail.Full slot len) ↔ ((2 ^ 40 < len) × (len ≡ length (images.spell image.now)) × (slot ≡ cond home.old.second 2 3)) }
     ensures costs { Costs (λ (h : Home H). home_faults H.faults h.disks) home.old home.new result }

@@ -1,11 +1,10 @@
 use Rattle.std.proofs.Common.{ℕ}
 use Rattle.kp_io.specs.Homes.{home_faults}
 use Rattle.kp_homes.specs.declared.home.Home.{Home}
-use Rattle.kp_homes.specs.Stands.{slot_number}
+use Rattle.kp_homes.specs.Stands.{slot_number, with_more}
 use Rattle.kp_homes.specs.Opening.{with_records}
-use Rattle.kp_homes.specs.Stands.{with_more}
 use Rattle.kp_homes.proofs.Lifting.{found_more}
-use Rattle.kp_kept.proofs.Batches.{on_ok, finds_either, costs_so, slot_small}
+use Rattle.kp_kept.proofs.Found.{batch_had, finds_either, costs_so, slot_small}
 use Rattle.kp_kept.proofs.homes.keep_batch.Goals as goal
 
 pub returns-clause-crash : goal.returns-clause-crash
@@ -14,9 +13,7 @@ returns-clause-crash g c = λ f k fits room.
     k.finds (found_more (slot_number c.args.home.now.second) 0 k.value f c.args.records.now k.finds fits) (c.append_batch.ensures.crash k.bytes k.value k.stands room)
 
 pub returns-clause-keeps : goal.returns-clause-keeps
-returns-clause-keeps g c = λ f k fits room.
-    on_ok c.append_batch.result (λ r. record { bytes = r.0; value = with_more c.args.records.now k.value; stands = r.1; finds = found_more (slot_number c.args.home.now.second) (slot_number c.append_batch.new.self.second) k.value f c.args.records.now k.finds fits })
-    (c.append_batch.ensures.rest k.bytes k.value k.stands room)
+returns-clause-keeps g c = batch_had g.H.Disk.held g.H.Disk.past c.args.home.now c.append_batch.new.self c.args.records.now c.append_batch.result c.append_batch.ensures.rest
 
 pub returns-clause-costs : goal.returns-clause-costs
 returns-clause-costs g c = costs_so (λ (h : Home g.row.H.Denot). home_faults g.H.Disk.faults h.disks) c.args.home.now c.append_batch.new.self c.append_batch.result c.append_batch.ensures.quiet c.append_batch.ensures.fault c.append_batch.ensures.full_same

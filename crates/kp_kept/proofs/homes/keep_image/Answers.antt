@@ -4,7 +4,7 @@ use Rattle.kp_homes.specs.declared.home.Home.{Home}
 use Rattle.kp_homes.specs.Stands.{slot_number, made, next_head}
 use Rattle.kp_homes.specs.Replays.{made_found}
 use Rattle.kp_homes.proofs.Carrying.{slot_found}
-use Rattle.kp_kept.proofs.Batches.{on_ok, finds_either, costs_so, image_small, image_found}
+use Rattle.kp_kept.proofs.Found.{image_had, finds_either, costs_so, image_small, image_found}
 use Rattle.kp_kept.proofs.homes.keep_image.Goals as goal
 
 pub returns-clause-crash : goal.returns-clause-crash
@@ -13,12 +13,7 @@ returns-clause-crash g c = λ f k fits room small.
     k.finds (slot_found 0 (next_head c.args.home.now.journal.head (length c.as_slice.result.now)) c.as_slice.result.now (Some c.args.image.now) c.args.rest.now (image_found c.as_slice.result.now c.args.image.now c.as_slice.ensures.spelled c.as_slice.ensures.fits) fits) (c.compact.ensures.crash k.bytes k.value k.stands room small)
 
 pub returns-clause-keeps : goal.returns-clause-keeps
-returns-clause-keeps g c = λ f k fits room small.
-    on_ok c.compact.result (λ r. record { bytes = r.0; value = made (next_head c.args.home.now.journal.head (length c.as_slice.result.now)) c.as_slice.result.now c.args.rest.now; stands = r.1; finds = slot_found (slot_number c.compact.new.self.second) (next_head c.args.home.now.journal.head (length c.as_slice.result.now)) c.as_slice.result.now (Some c.args.image.now) c.args.rest.now (image_found c.as_slice.result.now c.args.image.now c.as_slice.ensures.spelled c.as_slice.ensures.fits) fits })
-    (c.compact.ensures.rest k.bytes k.value k.stands room small)
-
-pub returns-clause-node : goal.returns-clause-node
-returns-clause-node g c = λ f k room small. on_ok c.compact.result (λ r. sym (ap (λ h. h.node) r.1.head)) (c.compact.ensures.rest k.bytes k.value k.stands room small)
+returns-clause-keeps g c = image_had g.H.Disk.held g.H.Disk.past c.args.home.now c.compact.new.self c.args.image.now c.as_slice.result.now c.args.rest.now c.compact.result c.as_slice.ensures.spelled c.as_slice.ensures.fits c.compact.ensures.rest
 
 pub returns-clause-full : goal.returns-clause-full
 returns-clause-full g c = λ slot len.

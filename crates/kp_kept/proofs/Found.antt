@@ -1,7 +1,7 @@
 -- What a home stands for, in the words of what opening finds.
-use Rattle.std.proofs.Common.{◌≡◌, ◌⊎◌, inl, inr, ℕ, ◌≤◌, ◌<◌, ◌^◌, Bool, true, false, cond, List, [], ◌∷◌, Option, Some, None, Result, Ok, Err, refl, ap, sym, subst, ◌∙◌, arith}
+use Rattle.std.proofs.Common.{◌≡◌, ◌⊎◌, inl, inr, ℕ, ◌≤◌, ◌<◌, ◌^◌, Bool, true, false, cond, List, [], ◌∷◌, length, Option, Some, None, Result, Ok, Err, refl, ap, sym, subst, ◌∙◌, arith}
 use Rattle.std.specs.Prelude.{OnOk, IsErrOf}
-use Rattle.kp_io.specs.Crash.{Past}
+use Rattle.kp_io.specs.Crash.{Past, HasRoom}
 use Rattle.kp_io.specs.Faults.{Rose}
 use Rattle.kp_io.specs.declared.home.Four.{Four}
 use Rattle.kp_entry.specs.declared.record.Record.{Record}
@@ -12,14 +12,16 @@ use Rattle.kp_snapshot.specs.Snapshots.{Snapshot, images}
 use Rattle.kp_snapshot.proofs.Whole.{whole_again}
 use Rattle.kp_homes.specs.declared.fail.HomeFail.{HomeFail}
 use Rattle.kp_homes.specs.declared.fail.HomeFail.TheVariants as home_fail
-use Rattle.kp_homes.specs.Stands.{Bytes4, Stand, Stands, StandsForEither, choice, stands, slot_number, IsOfWriting}
+use Rattle.kp_homes.specs.declared.home.Home.{Home}
+use Rattle.kp_homes.specs.Stands.{Bytes4, Stand, Stands, StandsForEither, choice, stands, slot_number, with_more, made, next_head, IsOfWriting}
 use Rattle.kp_homes.specs.Opening.{Found, found, found_in, image_in, image_read, live_slot}
 use Rattle.kp_homes.specs.Homes.{Keeps}
 use Rattle.kp_homes.proofs.Looking.{found_at}
-use Rattle.kp_homes.proofs.Lifting.{found_either}
+use Rattle.kp_homes.proofs.Carrying.{slot_found}
+use Rattle.kp_homes.proofs.Lifting.{found_either, found_more}
 use Rattle.kp_homes.proofs.Standing.{rest_only}
 use Rattle.kp_kept.specs.Answers.{Costs}
-use Rattle.kp_kept.specs.Finding.{FindsEither, FindsOnly}
+use Rattle.kp_kept.specs.Finding.{FindsEither, FindsOnly, HasBatch, HasImage}
 
 pub on_ok : {A E P Q : Type 0} (r : Result A E) → (P → Q) → OnOk r P → OnOk r Q
 on_ok (Ok x) f h = f h
@@ -37,6 +39,9 @@ module _ {H : Type 0} (held : H → Option (List ℕ)) (past : H → Option Past
   -- a home at rest is found as it is
   pub finds_only : FindsOnly j.head.node past home.moments home f
   finds_only n c lt left = stands_found j.head.node (slot_number second) c k.value f (rest_only held past j.head.node home k.bytes k.value k.stands.rest k.stands.value n c lt left) k.finds
+
+  pub finds_it : (g : Found) → FindsEither j.head.node past home.moments home f g
+  finds_it g n c lt left = inl (finds_only n c lt left)
 
 -- ---- the bytes of an image are read back
 
@@ -60,6 +65,26 @@ image_there (b ∷ bytes) s is e = ap (λ (r : Result Snapshot JuteFail). image_
 
 pub image_found : (bytes : List ℕ) (s : Snapshot) → bytes ≡ images.spell s → images.Fits s → image_in 0 bytes ≡ Ok (Some s)
 image_found bytes s is fits = image_there bytes s is (whole_again bytes s fits is)
+
+-- ---- what the calls leave to be found
+
+module _ {A H : Type 0} (held : H → Option (List ℕ)) (past : H → Option Past) (old new : Home H) where
+  pub batch_had : (rs : List Record) (r : Result A HomeFail)
+      → ((b : Bytes4) (v : Stand) → Stands held past old.disks old.second old.journal b v → HasRoom new.disks.moments → OnOk r ((c : Bytes4) × Stands held past new.disks new.second new.journal c (with_more rs v)))
+      → OnOk r (HasBatch held past old new rs)
+  batch_had rs (Ok x) rest = λ f k fits room.
+      let r = rest k.bytes k.value k.stands room in
+      record { bytes = r.0; value = with_more rs k.value; stands = r.1; finds = found_more (slot_number old.second) (slot_number new.second) k.value f rs k.finds fits }
+  batch_had rs (Err e) rest = tt
+
+  pub image_had : (i : Snapshot) (bytes : List ℕ) (rs : List Record) (r : Result A HomeFail) → bytes ≡ images.spell i → images.Fits i
+      → ((b : Bytes4) (v : Stand) → Stands held past old.disks old.second old.journal b v → HasRoom new.disks.moments → old.journal.head.generation < 2 ^ 62
+      → OnOk r ((c : Bytes4) × Stands held past new.disks new.second new.journal c (made (next_head old.journal.head (length bytes)) bytes rs)))
+      → OnOk r (HasImage held past old new i rs)
+  image_had i bytes rs (Ok x) is fits rest = λ f k fit room small.
+      let r = rest k.bytes k.value k.stands room small in
+      record { bytes = r.0; value = made (next_head old.journal.head (length bytes)) bytes rs; stands = r.1; finds = slot_found (slot_number new.second) (next_head old.journal.head (length bytes)) bytes (Some i) rs (image_found bytes i is fits) fit }
+  image_had i bytes rs (Err e) is fits rest = tt
 
 -- ---- what a call costs
 

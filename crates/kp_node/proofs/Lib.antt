@@ -44,3 +44,4 @@ pub mod Ends
 pub mod Greets
 pub mod Forgotten
 pub mod Writes
+pub mod Kept

@@ -38,3 +38,4 @@ pub mod Ending
 pub mod Greeting
 pub mod Forgetting
 pub mod Written
+pub mod Keeping

@@ -6,6 +6,7 @@ pub mod Making
 pub mod Refusals
 pub mod Replaying
 pub mod Within
+pub mod Ranges
 pub mod Lifting
 pub mod Settling
 pub mod Looking

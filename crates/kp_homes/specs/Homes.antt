@@ -1,5 +1,5 @@
 -- What a home that is open keeps.
-use Rattle.std.specs.Prelude.{◌≡◌, ◌⊎◌, ℕ, Bool, List, Option, Some, None, Result, Ok, Err}
+use Rattle.std.specs.Prelude.{◌≡◌, ◌⊎◌, ℕ, ◌≤◌, ◌^◌, Bool, List, Option, Some, None, Result, Ok, Err}
 use Rattle.kp_io.specs.Crash.{Past}
 use Rattle.kp_io.specs.declared.home.Four.{Four}
 use Rattle.kp_journal.specs.Journals.{Journaled}
@@ -17,6 +17,10 @@ pub record IsKept (k : Kept0) (f : Found) : Type 0 where
   pub boot : k.boot ≡ f.start.boot
   pub image : k.image ≡ f.image
   pub rest : k.rest.items ≡ f.start.held.log.entries
+
+-- the numbers with which a server starts are in their ranges
+abbrev pub IsInRange : Kept0 → Type 0
+IsInRange k = (k.vote ≤ 7) × (k.term ≤ 2 ^ 62) × (k.boot ≤ 2 ^ 62)
 
 -- opening finds this on a home at rest with this live slot and journal
 pub record Keeps {H : Type 0} (held : H → Option (List ℕ)) (past : H → Option Past) (home : Four H) (second : Bool) (j : Journaled) (f : Found) : Type 0 where

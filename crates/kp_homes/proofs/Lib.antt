@@ -13,4 +13,5 @@ pub mod Looking
 pub mod Earlier
 pub mod Beginning
 pub mod Carrying
+pub mod Finding
 pub mod Telling

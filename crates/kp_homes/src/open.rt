@@ -125,7 +125,7 @@ fn start_with<H: Disk>(
         second: live.second,
         journal: live.journal,
     };
-    match home.append_batch(records) {
+    match home.append_records(records) {
         Ok(()) => Ok((home, kept)),
         Err(fail) => {
             drop(kept);

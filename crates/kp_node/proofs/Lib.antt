@@ -47,3 +47,4 @@ pub mod Writes
 pub mod Noted
 pub mod Naming
 pub mod Delivered
+pub mod Kept

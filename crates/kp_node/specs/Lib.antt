@@ -41,3 +41,4 @@ pub mod Written
 pub mod Spoken
 pub mod Naming
 pub mod Delivering
+pub mod Keeping

@@ -34,6 +34,7 @@ mod informing;
 mod install_events;
 mod installs;
 mod joining;
+mod keeping;
 mod laws;
 mod leaving;
 mod meaning;

@@ -39,3 +39,7 @@ pub mod Ending
 pub mod Greeting
 pub mod Forgetting
 pub mod Written
+pub mod Spoken
+pub mod Naming
+pub mod Delivering
+pub mod Keeping

@@ -12,7 +12,7 @@ ghost use Rattle.kp_node.specs.Parts.{node_of};
 ghost use Rattle.kp_node.specs.Steps.{Steps};
 
 use crate::changing::{idle_among, is_given_up, keep_ready};
-use crate::deadlines::{hear_ahead, speak, unhear};
+use crate::deadlines::{hear_client, unhear_client};
 use crate::joining::ground_at;
 use crate::node::Node;
 use crate::outcome::Outcome;
@@ -46,7 +46,7 @@ impl Node {
     }
 
     // One event more was taken.
-    fn count_event(&mut self)
+    pub(crate) fn count_event(&mut self)
         requires { self.old.events < 2 ^ 62 }
         ensures { self.new ≡ record self.old { events = self.old.events + 1 } }
     {
@@ -87,7 +87,7 @@ impl Node {
         let _commit = self.raft.commit();
         let ground = ground_at(&self.raft, self.boot, now);
         let idle = idle_among(self.alloc, &self.seats, &[conn])?;
-        let before = match hear_ahead(
+        let before = match hear_client(
             &mut self.expiry,
             &mut self.spoken,
             &self.storage.committed(),
@@ -112,11 +112,16 @@ impl Node {
         ) {
             Err(none) => {
                 drop(idle);
-                unhear(&mut self.expiry, &self.storage.committed(), session, before);
+                unhear_client(
+                    &mut self.expiry,
+                    &mut self.spoken,
+                    &self.storage.committed(),
+                    session,
+                    before,
+                );
                 Err(none)
             }
             Ok(taken) => {
-                speak(&mut self.spoken, session);
                 self.events += 1;
                 Ok(gather(&self.seats, conn, idle, taken))
             }
@@ -124,7 +129,7 @@ impl Node {
     }
 
     // What is given of it.
-    fn give_read(&self, read: Read) -> Outcome
+    pub(crate) fn give_read(&self, read: Read) -> Outcome
         ensures { result ≡ given_fed read (standing_of (node_of self.now)) }
     {
         let Handed { records, mail } = read.taken.handed;
@@ -143,7 +148,7 @@ impl Node {
 
 // What bytes gave, whether something is ready for their connection, and whether it was given up. `idle` has it where
 // nothing was ready for it before.
-fn gather(seats: &Seats<Seat>, conn: u64, mut idle: Vec<u64>, taken: Taken) -> Read
+pub(crate) fn gather(seats: &Seats<Seat>, conn: u64, mut idle: Vec<u64>, taken: Taken) -> Read
     ensures { result ≡ record { taken = taken; ready = ready_among seats.now.seats idle.items; lost = length (lost_among seats.now.seats (conn ∷ [])) } }
 {
     keep_ready(seats, &mut idle);

@@ -1,14 +1,15 @@
 //! When each session was heard.
 
-ghost use Rattle.std.specs.Prelude.{◌≡◌, ◌==◌, ◌<◌, ℕ, vec_len, vec_capacity, IfOk, OnOk, OnErr};
+ghost use Rattle.std.specs.Prelude.{◌≡◌, ℕ, List, IfOk, OnOk, OnErr};
 ghost use Rattle.std.specs.Ordering.{nat_cmp};
 ghost use Rattle.std.specs.FinMap.{FinMap, get};
 ghost use Rattle.kp_expiry.specs.declared.heard.Heard.{Heard};
 ghost use Rattle.kp_step.specs.Committing.{hear as heard_with, hear_all as heard_with_all};
-ghost use Rattle.kp_step.specs.Step.{all_heard as heard_of_all, with_spoken};
-ghost use Rattle.std.specs.List.{list_any};
+ghost use Rattle.kp_step.specs.Step.{all_heard as heard_of_all};
+ghost use Rattle.kp_node.specs.Spoken.{IsNoted};
 
 use crate::forgetting::put_back;
+use crate::spoken::Spoken;
 use kp_expiry::{Expiry, Heard};
 use kp_model::{NoMemory, View};
 use std::alloc::Global;
@@ -32,51 +33,62 @@ pub(crate) fn hear<V: View>(
     Ok(())
 }
 
-/// A session of the state is heard at this time, in milliseconds, and there is room to say so by `speak`. Answers when it
-/// was heard before. Without memory nothing has changed.
-pub(crate) fn hear_ahead<V: View>(
+/// When a session was heard before it was heard again, and whether it is new among those that were.
+#[derive(Clone, Copy)]
+pub(crate) struct Silence {
+    pub(crate) heard: Option<Heard>,
+    pub(crate) fresh: bool,
+}
+
+/// A session of the state is heard at this time, in milliseconds, and is among those that were. Without memory nothing has
+/// changed.
+pub(crate) fn hear_client<V: View>(
     expiry: &mut Expiry,
-    spoken: &mut Vec<u64>,
+    spoken: &mut Spoken,
     view: &V,
     now: u64,
     session: u64,
-) -> Result<Option<Heard>, NoMemory>
-    ensures before { IfOk result (λ before. before ≡ get expiry.old session) }
+) -> Result<Silence, NoMemory>
+    ensures before { IfOk result (λ s. s.heard ≡ get expiry.old session) }
     ensures heard { OnOk result (expiry.new ≡ heard_with now (V.state view.now) expiry.old session) }
-    ensures room { OnOk result (vec_len spoken.new < vec_capacity spoken.new) }
-    ensures spoken { spoken.new.items ≡ spoken.old.items }
+    ensures spoken { IfOk result (λ s. IsNoted spoken.old session s.fresh spoken.new) }
     ensures err { OnErr result (expiry.new ≡ expiry.old) }
+    ensures err_spoken { OnErr result (spoken.new ≡ spoken.old) }
 {
-    spoken.reserve(1)?;
-    let before = expiry.heard(session);
-    hear(expiry, view, now, session)?;
-    Ok(before)
+    let heard = expiry.heard(session);
+    let fresh = spoken.note(session)?;
+    match hear(expiry, view, now, session) {
+        Ok(()) => Ok(Silence { heard, fresh }),
+        Err(none) => {
+            spoken.unnote(session, fresh);
+            Err(none)
+        }
+    }
 }
 
-/// Takes the hearing of a session back, which was heard so before. Takes no memory.
-pub(crate) fn unhear<V: View>(expiry: &mut Expiry, view: &V, session: u64, before: Option<Heard>)
+/// Takes the hearing of a session back. Takes no memory.
+pub(crate) fn unhear_client<V: View>(
+    expiry: &mut Expiry,
+    spoken: &mut Spoken,
+    view: &V,
+    session: u64,
+    before: Silence,
+)
+    requires { (m : List ℕ) × IsNoted m session before.fresh spoken.old }
+    ensures heard { (m : FinMap nat_cmp Heard) (now : ℕ) → expiry.old ≡ heard_with now (V.state view.now) m session → before.heard ≡ get m session → expiry.new ≡ m }
+    ensures spoken { (m : List ℕ) → IsNoted m session before.fresh spoken.old → spoken.new ≡ m }
+{
+    unhear(expiry, view, session, before.heard);
+    spoken.unnote(session, before.fresh);
+}
+
+// Takes the hearing of a session back, which was heard so before. Takes no memory.
+fn unhear<V: View>(expiry: &mut Expiry, view: &V, session: u64, before: Option<Heard>)
     ensures { (m : FinMap nat_cmp Heard) (now : ℕ) → expiry.old ≡ heard_with now (V.state view.now) m session → before ≡ get m session → expiry.new ≡ m }
 {
     if view.session(session).is_some() {
         put_back(expiry, session, before);
     }
-}
-
-/// A session is among those that were heard, once. Takes no memory.
-pub(crate) fn speak(spoken: &mut Vec<u64>, session: u64)
-    requires { vec_len spoken.old < vec_capacity spoken.old }
-    ensures { spoken.new.items ≡ with_spoken spoken.old.items session }
-{
-    if !is_spoken(spoken, session) {
-        spoken.push_reserved(session);
-    }
-}
-
-// Whether the session is among those that were heard.
-fn is_spoken(spoken: &[u64], session: u64) -> bool
-    ensures { result ≡ list_any (λ i. i == session) spoken.now }
-{
-    spoken.iter().any(|id| *id == session)
 }
 
 /// Those of the sessions that the state has are heard at this time, in milliseconds. Without memory some of them are.

@@ -1,9 +1,8 @@
 //! The sessions that were heard since the leader was told of some.
 
-ghost use Rattle.std.specs.Prelude.{◌≡◌, ℕ, List, [], IfOk, OnOk, OnErr};
+ghost use Rattle.std.specs.Prelude.{◌≡◌, ℕ, List, [], true, IfOk, OnErr};
 ghost use Rattle.std.specs.Coded.{coded_list, coded_ℕ};
-ghost use Rattle.kp_step.specs.Step.{with_spoken};
-ghost use Rattle.kp_node.specs.Spoken.{Knows};
+ghost use Rattle.kp_node.specs.Spoken.{Knows, IsNoted};
 
 use kp_model::NoMemory;
 use std::alloc::Global;
@@ -39,12 +38,22 @@ impl Spoken {
         }
     }
 
-    /// A session was heard. After an error nothing has changed.
-    pub(crate) fn note(&mut self, session: u64) -> Result<(), NoMemory>
-        ensures ok { OnOk result (self.new ≡ with_spoken self.old session) }
+    /// A session was heard. Answers whether it is new among them. After an error nothing has changed.
+    pub(crate) fn note(&mut self, session: u64) -> Result<bool, NoMemory>
+        ensures ok { IfOk result (λ fresh. IsNoted self.old session fresh self.new) }
         ensures err { OnErr result (self.new ≡ self.old) }
     {
         note(&mut self.list, &mut self.known, session)
+    }
+
+    /// Takes the noting of a session back, which was new or wasn't. Takes no memory.
+    pub(crate) fn unnote(&mut self, session: u64, fresh: bool)
+        requires { (m : List ℕ) × IsNoted m session fresh self.old }
+        ensures { (m : List ℕ) → IsNoted m session fresh self.old → self.new ≡ m }
+    {
+        if fresh {
+            unnote(&mut self.list, &mut self.known, session);
+        }
     }
 
     /// All that were heard; then none are left. Takes no memory.
@@ -58,19 +67,30 @@ impl Spoken {
 }
 
 // Puts a session behind the others, where it isn't among them. After an error nothing has changed.
-fn note(list: &mut Vec<u64>, known: &mut BTreeSet<u64>, session: u64) -> Result<(), NoMemory>
+fn note(list: &mut Vec<u64>, known: &mut BTreeSet<u64>, session: u64) -> Result<bool, NoMemory>
     requires { Knows known.old list.old.items }
-    ensures ok { OnOk result (list.new.items ≡ with_spoken list.old.items session) }
+    ensures ok { IfOk result (λ fresh. IsNoted list.old.items session fresh list.new.items) }
     ensures knows { Knows known.new list.new.items }
     ensures err { OnErr result (list.new.items ≡ list.old.items) }
 {
     if known.contains(&session) {
-        return Ok(());
+        return Ok(false);
     }
     list.push(session)?;
     if known.insert(session).is_err() {
         list.pop();
         return Err(NoMemory);
     }
-    Ok(())
+    Ok(true)
+}
+
+// The last of the sessions goes, which is this one.
+fn unnote(list: &mut Vec<u64>, known: &mut BTreeSet<u64>, session: u64)
+    requires knows { Knows known.old list.old.items }
+    requires last { (m : List ℕ) × IsNoted m session true list.old.items }
+    ensures items { (m : List ℕ) → IsNoted m session true list.old.items → list.new.items ≡ m }
+    ensures knows { Knows known.new list.new.items }
+{
+    list.pop();
+    known.remove(&session);
 }

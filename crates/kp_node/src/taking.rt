@@ -105,8 +105,8 @@ fn take_among(
     }
 }
 
-// A connection that is over serves no session.
-fn leave_over(seats: &mut Seats<Seat>, number: u64)
+/// A connection that is over serves no session.
+pub(crate) fn leave_over(seats: &mut Seats<Seat>, number: u64)
     ensures { seats.new ≡ left_over (map.get seats.old.seats number) seats.old number }
 {
     if is_over(seats, number) {

@@ -1,7 +1,6 @@
 -- A connection that takes bytes makes the step of its node.
-use Rattle.std.proofs.Common.{◌≡◌, ℕ, ◌+◌, ◌-◌, ◌≤◌, ◌<◌, ◌^◌, Bool, true, false, cond, not, ◌&&◌, ◌||◌, nat_eq, List, [], ◌∷◌, ◌++◌, length, Option, Some, None, is_some, refl, ap, sym, subst, ◌∙◌, arith}
+use Rattle.std.proofs.Common.{◌≡◌, ℕ, ◌+◌, ◌-◌, ◌≤◌, ◌<◌, ◌^◌, Bool, true, false, cond, ◌||◌, nat_eq, List, [], ◌∷◌, ◌++◌, length, Option, Some, None, is_some, refl, ap, sym, subst, ◌∙◌, arith}
 use Rattle.std.specs.Prelude.{map, if◌then◌else◌}
-use Rattle.std.specs.List.{list_any}
 use Rattle.std.specs.List.Sorted.{IsStrictlySortedBy}
 use Rattle.std.specs.Ordering.{nat_cmp}
 use Rattle.std.specs.Cmp.{nat_eq_equiv}
@@ -9,7 +8,6 @@ use Rattle.std.specs.FinMap as map
 use Rattle.std.specs.FinMap.{FinMap}
 use Rattle.kp_model.specs.Store.{Store}
 use Rattle.kp_entry.specs.Log.{last_index}
-use Rattle.kp_entry.specs.Held.{replay}
 use Rattle.kp_raft.specs.declared.event.RaftEvent.TheVariants as raft
 use Rattle.kp_raft.specs.declared.event.RaftOut.{RaftOut}
 use Rattle.kp_raft.specs.Members.{Member, running_of}
@@ -30,12 +28,11 @@ use Rattle.kp_conn.specs.Frames.{cut}
 use Rattle.kp_step.specs.declared.seat.Seat.{Seat}
 use Rattle.kp_step.specs.Choices.{Choices}
 use Rattle.kp_step.specs.Node.{Node, Seats}
-use Rattle.kp_step.specs.Settling.{is_at_rest}
 use Rattle.kp_step.specs.Tables.{seated}
-use Rattle.kp_step.specs.Handing.{Served, serves, ground, desk}
-use Rattle.kp_step.specs.Asking.{Words, Input, idle, asks, asked, reacted, installed, client_input, client_served, propose_if, is_csnp, fed_end}
+use Rattle.kp_step.specs.Handing.{Served, serves, ground}
+use Rattle.kp_step.specs.Asking.{Words, Input, idle, asks, asked, reacted, installed, client_input, client_served, propose_if, is_csnp}
 use Rattle.kp_step.specs.Committing.{hear}
-use Rattle.kp_step.specs.Step.{with_spoken, Stepped, Turn, turn, turned, together, step, client_turn, fed_turn, fed_word, hears_client, node_behind, client_table, behind, standing_of, swept, keeps_watches, count_lost, newly_ready, is_ready, mail_of, filled, forwarded}
+use Rattle.kp_step.specs.Step.{with_spoken, Stepped, Turn, turn, turned, together, step, client_turn, fed_turn, fed_word, hears_client, node_behind, client_table, behind, standing_of, swept, keeps_watches, count_lost, newly_ready, filled, forwarded}
 use Rattle.kp_step.specs.Runs.{IsResting}
 use Rattle.kp_step.proofs.Resting.{AllQuiet, IsQuiet, insert_quiet, serves_quiet}
 use Rattle.kp_node.specs.declared.client_events.Read.{Read}

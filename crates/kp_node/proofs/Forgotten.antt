@@ -1,5 +1,5 @@
 -- What was heard is taken back, and what ended is forgotten.
-use Rattle.std.proofs.Common.{Bor, ◌≡◌, ℕ, Bool, true, false, cond, Option, Some, None, is_some, refl, ap, sym, subst, ◌∙◌}
+use Rattle.std.proofs.Common.{Bor, ◌≡◌, ℕ, Bool, true, false, cond, Option, Some, None, is_some, refl, ap, sym, ◌∙◌}
 use Rattle.std.specs.Prelude.{nat_eq, Result, Ok, Err, IsOk, OnOk, option_copied}
 use Rattle.std.specs.Ordering.{nat_cmp}
 use Rattle.std.specs.Cmp.{nat_eq_equiv}
@@ -7,7 +7,6 @@ use Rattle.std.specs.FinMap as map
 use Rattle.std.specs.FinMap.{FinMap}
 use Rattle.kp_model.specs.declared.command.Cmd.{Cmd}
 use Rattle.kp_model.specs.declared.command.Cmd.TheVariants as cmd
-use Rattle.kp_model.specs.declared.entry.Body.{Body}
 use Rattle.kp_model.specs.declared.entry.Body.TheVariants as body
 use Rattle.kp_model.specs.declared.reply.Reply.{Reply}
 use Rattle.kp_model.specs.declared.reply.Reply.TheVariants as reply
@@ -16,8 +15,7 @@ use Rattle.kp_model.specs.State.{State}
 use Rattle.kp_expiry.specs.declared.heard.Heard.{Heard}
 use Rattle.kp_step.specs.Node.{heard_at}
 use Rattle.kp_step.specs.Committing.{hear_in, heard_behind}
-use Rattle.kp_node.specs.Forgetting.{heard_before, ended_by, forgotten, opens, EndIsForgotten}
-use Rattle.kp_node.specs.Welcoming.{asks_session}
+use Rattle.kp_node.specs.Forgetting.{ended_by, forgotten, opens, EndIsForgotten}
 use Rattle.kp_node.proofs.Maps.{no, get-put, get-taken, same, same_number}
 
 module _ {X : Type 0} (m : FinMap nat_cmp X) (k : ℕ) (a : X) where

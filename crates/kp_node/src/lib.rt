@@ -13,6 +13,7 @@ mod answering;
 mod append_events;
 mod appends;
 mod changing;
+mod client;
 mod client_events;
 mod coming;
 mod concerned;

@@ -49,3 +49,6 @@ pub mod Noted
 pub mod Naming
 pub mod Delivered
 pub mod Kept
+pub mod Firsts
+pub mod EarlySeats
+pub mod FirstFed

@@ -38,3 +38,7 @@ pub mod Ending
 pub mod Greeting
 pub mod Forgetting
 pub mod Written
+pub mod Prospects
+pub mod Guests
+pub mod Applied
+pub mod Commits

@@ -5,9 +5,10 @@ ghost use Rattle.kp_entry.specs.Records.{has_base};
 
 use kp_disks::{FaultyDisk, file_home};
 use kp_entry::{Record, Records};
-use kp_homes::{Home, HomeFail, Kept0};
+use kp_homes::{Home, HomeFail, Kept0, Whole};
 use kp_io::{Disk, Four, MemoryDisk};
 use kp_model::NoMemory;
+use kp_snapshot::{Image, ImageFail};
 use std::alloc::{AllocError, Global};
 use std::fs::{File, Files};
 use std::io::Print;
@@ -144,22 +145,46 @@ enum Work {
     Slot,
 }
 
+// The image of a node that has only the root, and these records behind it.
+fn root_and(alloc: Global, records: Records) -> Result<Whole, ImageFail>
+    ensures { IfOk result (λ w. w.rest ≡ records) }
+{
+    let bytes = Vec::from_slice(alloc, ROOT_IMAGE);
+    match image_from(alloc, bytes) {
+        Ok(image) => Ok(Whole {
+            image: Some(image),
+            rest: records,
+        }),
+        Err(fail) => {
+            drop(records);
+            Err(fail)
+        }
+    }
+}
+
+fn image_from(alloc: Global, bytes: Result<Vec<u8>, AllocError>) -> Result<Image, ImageFail> {
+    match bytes {
+        Ok(bytes) => Image::from_vec(alloc, bytes),
+        Err(_) => Err(ImageFail::NoMemory),
+    }
+}
+
 // Opens a home, does this work, and closes it: whether it was opened, and whether the work was done.
 fn worked<H: Disk>(
     alloc: Global,
     disks: Four<H>,
     work: Work,
-    records: &Records,
+    whole: &Whole,
 ) -> (bool, bool, Four<H>)
-    requires { has_base records.now ≡ false }
+    requires { has_base whole.now.rest ≡ false }
 {
     match Home::open(alloc, disks, 1) {
         Ok((home, kept)) => {
             drop(kept);
             let mut home = home;
             let done = match work {
-                Work::Batch => home.append_batch(records),
-                Work::Slot => home.compact(ROOT_IMAGE, records),
+                Work::Batch => home.append_batch(&whole.rest),
+                Work::Slot => home.compact(whole),
             };
             (true, done.is_ok(), home.close())
         }
@@ -167,20 +192,18 @@ fn worked<H: Disk>(
     }
 }
 
-// Does the work on a home that stops behind a moment, and opens what a crash leaves: whether the home was opened,
-// whether the work was done, and what is found.
-fn stopped(
+// Does the work on a home, and opens what a crash leaves of it: whether the home was opened, whether the work was done, and
+// what is found.
+fn found_behind(
     alloc: Global,
+    disks: Four<FaultyDisk>,
     work: Work,
-    records: &Records,
-    stop: u64,
-    fill: u8,
+    whole: &Whole,
 ) -> Result<(bool, bool, Result<Told, HomeFail>), AllocError>
-    requires { has_base records.now ≡ false }
+    requires { has_base whole.now.rest ≡ false }
 {
-    let disks = home_of(alloc, ONE_ENTRY, &[], stop)?;
-    let (begun, done, disks) = worked(alloc, disks, work, records);
-    let left = crashed(alloc, &disks, fill);
+    let (begun, done, disks) = worked(alloc, disks, work, whole);
+    let left = crashed(alloc, &disks, 1);
     drop(disks);
     let (found, left) = opened(alloc, left?);
     drop(left);
@@ -213,13 +236,14 @@ fn may_be_found(work: Work, begun: bool, done: bool, found: Result<Told, HomeFai
 }
 
 // Whether that holds wherever the disks stop, and how many stops let the work be done.
-fn stops(alloc: Global, work: Work, records: &Records, fill: u8) -> Result<(bool, u64), AllocError>
-    requires { has_base records.now ≡ false }
+fn stops(alloc: Global, work: Work, whole: &Whole) -> Result<(bool, u64), AllocError>
+    requires { has_base whole.now.rest ≡ false }
 {
     let mut held = true;
     let mut full = 0u64;
     for stop in 0..40u64 {
-        let (begun, done, found) = stopped(alloc, work, records, stop, fill)?;
+        let disks = home_of(alloc, ONE_ENTRY, &[], stop)?;
+        let (begun, done, found) = found_behind(alloc, disks, work, whole)?;
         held = held && may_be_found(work, begun, done, found);
         if done && full < 100 {
             full += 1;
@@ -230,14 +254,52 @@ fn stops(alloc: Global, work: Work, records: &Records, fill: u8) -> Result<(bool
 
 #[test]
 fn a_home_is_stopped_at_each_moment(rt: HostRuntime) -> Result<(), Fail> {
-    let records = vote(rt.alloc())?;
-    let batch = stops(rt.alloc(), Work::Batch, &records, 1);
-    let slot = stops(rt.alloc(), Work::Slot, &records, 1);
-    drop(records);
+    let whole = root_and(rt.alloc(), vote(rt.alloc())?)?;
+    let batch = stops(rt.alloc(), Work::Batch, &whole);
+    let slot = stops(rt.alloc(), Work::Slot, &whole);
+    drop(whole);
     let (held, full) = batch?;
     assert!(rt; held && 0 < full && full < 40);
     let (held, full) = slot?;
     assert!(rt; held && 0 < full && full < 40);
+    Ok(())
+}
+
+// Whether it holds where one of the first calls of one disk fails, and how often the work was not done.
+fn fails_once(
+    alloc: Global,
+    work: Work,
+    whole: &Whole,
+    which: u64,
+) -> Result<(bool, u64), AllocError>
+    requires { has_base whole.now.rest ≡ false }
+{
+    let mut held = true;
+    let mut failed = 0u64;
+    for call in 1..24u64 {
+        let disks = failing_home(alloc, which, call)?;
+        let (begun, done, found) = found_behind(alloc, disks, work, whole)?;
+        held = held && may_be_found(work, begun, done, found);
+        if !done && failed < 100 {
+            failed += 1;
+        }
+    }
+    Ok((held, failed))
+}
+
+#[test]
+fn each_call_of_a_batch_and_of_a_slot_fails_once(rt: HostRuntime) -> Result<(), Fail> {
+    let whole = root_and(rt.alloc(), vote(rt.alloc())?)?;
+    let batch = fails_once(rt.alloc(), Work::Batch, &whole, 0);
+    let journal = fails_once(rt.alloc(), Work::Slot, &whole, 1);
+    let image = fails_once(rt.alloc(), Work::Slot, &whole, 3);
+    drop(whole);
+    let (held, failed) = batch?;
+    assert!(rt; held && 0 < failed && failed < 23);
+    let (held, failed) = journal?;
+    assert!(rt; held && 0 < failed && failed < 23);
+    let (held, failed) = image?;
+    assert!(rt; held && 0 < failed && failed < 23);
     Ok(())
 }
 

@@ -6,10 +6,12 @@ pub mod Making
 pub mod Refusals
 pub mod Replaying
 pub mod Within
+pub mod Ranges
 pub mod Lifting
 pub mod Settling
 pub mod Looking
 pub mod Earlier
 pub mod Beginning
 pub mod Carrying
+pub mod Finding
 pub mod Telling

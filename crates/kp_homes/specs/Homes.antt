@@ -1,5 +1,5 @@
 -- What a home that is open keeps.
-use Rattle.std.specs.Prelude.{◌≡◌, ◌⊎◌, ℕ, Bool, List, Option, Some, None, Result, Ok, Err}
+use Rattle.std.specs.Prelude.{◌≡◌, ◌⊎◌, ℕ, ◌≤◌, ◌<◌, ◌^◌, Bool, List, Option, Some, None, Result, Ok, Err}
 use Rattle.kp_io.specs.Crash.{Past}
 use Rattle.kp_io.specs.declared.home.Four.{Four}
 use Rattle.kp_journal.specs.Journals.{Journaled}
@@ -7,8 +7,8 @@ use Rattle.kp_homes.specs.declared.fail.HomeFail.{HomeFail}
 use Rattle.kp_homes.specs.declared.fail.HomeFail.TheVariants as home_fail
 use Rattle.kp_homes.specs.declared.kept.Kept0.{Kept0}
 use Rattle.kp_homes.specs.declared.home.Home.{Home}
-use Rattle.kp_homes.specs.Stands.{Bytes4, Stand, Stands, slot_number}
-use Rattle.kp_homes.specs.Opening.{Found, found_in, booted}
+use Rattle.kp_homes.specs.Stands.{Bytes4, Stand, Stands, HomeLeft, slot_number}
+use Rattle.kp_homes.specs.Opening.{Found, found, found_in, booted}
 
 -- a server starts with what was found
 pub record IsKept (k : Kept0) (f : Found) : Type 0 where
@@ -18,12 +18,24 @@ pub record IsKept (k : Kept0) (f : Found) : Type 0 where
   pub image : k.image ≡ f.image
   pub rest : k.rest.items ≡ f.start.held.log.entries
 
+-- the numbers with which a server starts are in their ranges
+abbrev pub IsInRange : Kept0 → Type 0
+IsInRange k = (k.vote ≤ 7) × (k.term ≤ 2 ^ 62) × (k.boot ≤ 2 ^ 62)
+
 -- opening finds this on a home at rest with this live slot and journal
 pub record Keeps {H : Type 0} (held : H → Option (List ℕ)) (past : H → Option Past) (home : Four H) (second : Bool) (j : Journaled) (f : Found) : Type 0 where
   pub bytes : Bytes4
   pub value : Stand
   pub stands : Stands held past home second j bytes value
   pub finds : found_in (slot_number second) (Ok value) ≡ Ok f
+
+-- after each crash since the count was m opening finds the one or the other
+abbrev pub FindsEither : {H : Type 0} → ℕ → (H → Option Past) → ℕ → Four H → Found → Found → Type 0
+FindsEither node past m home f g = (n : ℕ) (c : Bytes4) → m < n → HomeLeft past home n c → (found node c ≡ Ok f) ⊎ (found node c ≡ Ok g)
+
+-- after each crash since the count was m opening finds this
+abbrev pub FindsOnly : {H : Type 0} → ℕ → (H → Option Past) → ℕ → Four H → Found → Type 0
+FindsOnly node past m home f = (n : ℕ) (c : Bytes4) → m < n → HomeLeft past home n c → found node c ≡ Ok f
 
 -- the refusal of what was found is this one, where it is a damage
 abbrev pub IsRefused : HomeFail → Result Found HomeFail → Type 0

@@ -8,11 +8,14 @@ ghost use Rattle.kp_journal.specs.Heads.{IsHead};
 ghost use Rattle.kp_journal.specs.Journals.{unread};
 ghost use Rattle.kp_journal.specs.declared.fail.JournalFail.TheVariants as journal_fail;
 ghost use Rattle.kp_homes.specs.declared.fail.HomeFail.TheVariants as home_fail;
-ghost use Rattle.kp_homes.specs.Opening.{IsEarlier};
+ghost use Rattle.kp_homes.specs.Opening.{Found, IsEarlier, are_fit, blank_start, with_records};
+ghost use Rattle.kp_homes.specs.Homes.{Keeps, FindsEither, FindsOnly};
+ghost use Rattle.kp_homes.specs.Replays.{image_bytes, made_found};
 ghost use Rattle.kp_homes.specs.Stands.{Bytes4, Stand, Stands, IsAtRest, IsReady, StandsForEither, StandsForOnly, stands, choice, with_more, made, next_head, slot_number, IsOfWriting};
 
 use crate::fail::{HomeFail, fail_in};
 use crate::slot::new_slot;
+use crate::whole::{Whole, image_bytes};
 use kp_entry::Records;
 use kp_io::{Disk, Failed, Four};
 use kp_journal::{Head, Journal, JournalFail};
@@ -77,6 +80,7 @@ impl<H: Disk> Home<H> {
         ensures full { (len : ℕ) → IsErrOf result (journal_fail.Full len) ↔ ((2 ^ 40 < len) × (len ≡ self.old.journal.gate + 6 + length (spelled records.now))) }
         ensures full_same { (len : ℕ) → IsErrOf result (journal_fail.Full len) → self.new ≡ self.old }
         ensures fault { IsErrOf result journal_fail.DiskFault → Rose (home_faults H.faults self.old.disks) (home_faults H.faults self.new.disks) }
+        ensures quiet { OnOk result (home_faults H.faults self.new.disks ≡ home_faults H.faults self.old.disks) }
         ensures only { (f : JournalFail) → IsErrOf result f → IsOfAppend f }
         ensures moment { self.old.disks.moments ≤ self.new.disks.moments }
     {
@@ -89,14 +93,8 @@ impl<H: Disk> Home<H> {
         }
     }
 
-    /// Adds a batch of records to the home. Takes no memory.
-    ///
-    /// A crash at any moment since the call began, within a write too, leaves a home that stands
-    /// for what it stood for, or for that with the batch. After Ok each crash leaves it with the
-    /// batch. After `DiskFault`, which comes only where the home's count of faults rose, it leaves
-    /// one of the two, and this value is to be closed. `Full` comes exactly where the journal would
-    /// be longer than 2^40 bytes, and changes nothing.
-    pub fn append_batch(&mut self, records: &Records) -> Result<(), HomeFail>
+    /// Adds a batch of records to the home: `append_batch` in the words of what the disks stand for.
+    pub(crate) fn append_records(&mut self, records: &Records) -> Result<(), HomeFail>
         requires ready { IsReady self.old.second (H.held self.old.disks.j0) (H.held self.old.disks.j1) self.old.journal }
         requires no_base { has_base records.now ≡ false }
         ensures crash { (b : Bytes4) (v : Stand) → Stands H.held H.past self.old.disks self.old.second self.old.journal b v → HasRoom self.new.disks.moments
@@ -111,6 +109,7 @@ impl<H: Disk> Home<H> {
         ensures full { (slot len : ℕ) → IsErrOf result (home_fail.Full slot len) ↔ ((2 ^ 40 < len) × (len ≡ self.old.journal.gate + 6 + length (spelled records.now)) × (slot ≡ slot_number self.old.second)) }
         ensures full_same { (slot len : ℕ) → IsErrOf result (home_fail.Full slot len) → self.new ≡ self.old }
         ensures fault { IsErrOf result home_fail.DiskFault → Rose (home_faults H.faults self.old.disks) (home_faults H.faults self.new.disks) }
+        ensures quiet { OnOk result (home_faults H.faults self.new.disks ≡ home_faults H.faults self.old.disks) }
         ensures only { (f : HomeFail) → IsErrOf result f → IsOfWriting f }
         ensures moment { self.old.disks.moments ≤ self.new.disks.moments }
     {
@@ -135,6 +134,7 @@ impl<H: Disk> Home<H> {
         ensures second { self.new.second ≡ self.old.second }
         ensures ready { OnOk result (IsReady (not self.old.second) (H.held self.new.disks.j0) (H.held self.new.disks.j1) (unread head (27 + length (spelled records.now)))) }
         ensures fault { IsErr result → Rose (home_faults H.faults self.old.disks) (home_faults H.faults self.new.disks) }
+        ensures quiet { OnOk result (home_faults H.faults self.new.disks ≡ home_faults H.faults self.old.disks) }
         ensures moment { self.old.disks.moments ≤ self.new.disks.moments }
     {
         let body = records.bytes();
@@ -159,15 +159,9 @@ impl<H: Disk> Home<H> {
         }
     }
 
-    /// Makes the home stand for this image, none where it has no bytes, and these records behind
-    /// it. It writes the other slot, which its last write makes the live one. Takes no memory.
-    ///
-    /// A crash at any moment since the call began, within a write too, leaves a home that stands
-    /// for what it stood for, or for this. After Ok each crash leaves it with this. After
-    /// `DiskFault`, which comes only where the home's count of faults rose, it leaves one of the
-    /// two, and this value is to be closed. `Full` comes exactly where the image is longer than
-    /// 2^40 bytes, and changes nothing.
-    pub fn compact(&mut self, image: &[u8], rest: &Records) -> Result<(), HomeFail>
+    // Makes the home stand for these bytes of an image, none where there are none, and these records behind it: `compact`
+    // in the words of what the disks stand for.
+    fn make_slot(&mut self, image: &[u8], rest: &Records) -> Result<(), HomeFail>
         requires { has_base rest.now ≡ false }
         ensures crash { (b : Bytes4) (v : Stand) → Stands H.held H.past self.old.disks self.old.second self.old.journal b v → HasRoom self.new.disks.moments → self.old.journal.head.generation < 2 ^ 62
             → StandsForEither self.old.journal.head.node H.past self.old.disks.moments self.new.disks v (made (next_head self.old.journal.head (length image.now)) image.now rest.now) }
@@ -177,9 +171,11 @@ impl<H: Disk> Home<H> {
         ensures kept { (b : Bytes4) (v : Stand) → Stands H.held H.past self.old.disks self.old.second self.old.journal b v → HasRoom self.new.disks.moments → self.old.journal.head.generation < 2 ^ 62
             → OnOk result (StandsForOnly self.new.journal.head.node H.past self.new.disks.moments self.new.disks (made (next_head self.old.journal.head (length image.now)) image.now rest.now)) }
         ensures ready { OnOk result (IsReady self.new.second (H.held self.new.disks.j0) (H.held self.new.disks.j1) self.new.journal) }
+        ensures head { OnOk result (self.new.journal.head ≡ next_head self.old.journal.head (length image.now)) }
         ensures full { (slot len : ℕ) → IsErrOf result (home_fail.Full slot len) ↔ ((2 ^ 40 < len) × (len ≡ length image.now) × (slot ≡ cond self.old.second 2 3)) }
         ensures full_same { (slot len : ℕ) → IsErrOf result (home_fail.Full slot len) → self.new ≡ self.old }
         ensures fault { IsErrOf result home_fail.DiskFault → Rose (home_faults H.faults self.old.disks) (home_faults H.faults self.new.disks) }
+        ensures quiet { OnOk result (home_faults H.faults self.new.disks ≡ home_faults H.faults self.old.disks) }
         ensures only { (f : HomeFail) → IsErrOf result f → IsOfWriting f }
         ensures moment { self.old.disks.moments ≤ self.new.disks.moments }
     {
@@ -197,5 +193,64 @@ impl<H: Disk> Home<H> {
             }
             Err(_) => Err(HomeFail::DiskFault),
         }
+    }
+
+    /// Adds a batch of records to the home. Takes no memory.
+    ///
+    /// Opening finds `f` on the home as it is, and each record may stand behind those before it and what was found. Then a
+    /// crash at any moment since the call began, within a write too, leaves a home on which opening finds `f`, or the replay
+    /// of the records on it. After Ok opening finds the replay, whatever crash comes. After `DiskFault`, which comes only
+    /// where the home's count of faults rose, it finds one of the two, and this value is to be closed. `Full` comes exactly
+    /// where the journal would be longer than 2^40 bytes, and changes nothing.
+    pub fn append_batch(&mut self, records: &Records) -> Result<(), HomeFail>
+        requires ready { IsReady self.old.second (H.held self.old.disks.j0) (H.held self.old.disks.j1) self.old.journal }
+        requires no_base { has_base records.now ≡ false }
+        ensures crash { (f : Found) → Keeps H.held H.past self.old.disks self.old.second self.old.journal f → HasRoom self.new.disks.moments → are_fit f.start.held records.now ≡ true
+            → FindsEither self.old.journal.head.node H.past self.old.disks.moments self.new.disks f (with_records records.now f) }
+        ensures kept { (f : Found) → Keeps H.held H.past self.old.disks self.old.second self.old.journal f → HasRoom self.new.disks.moments → are_fit f.start.held records.now ≡ true
+            → OnOk result (FindsOnly self.new.journal.head.node H.past self.new.disks.moments self.new.disks (with_records records.now f)) }
+        ensures keeps { (f : Found) → Keeps H.held H.past self.old.disks self.old.second self.old.journal f → HasRoom self.new.disks.moments → are_fit f.start.held records.now ≡ true
+            → OnOk result (Keeps H.held H.past self.new.disks self.new.second self.new.journal (with_records records.now f)) }
+        ensures earlier { (f : Found) → Keeps H.held H.past self.old.disks self.old.second self.old.journal f → HasRoom self.new.disks.moments → IsEarlier H.past self.old.disks self.new.disks }
+        ensures head { OnOk result (self.new.journal.head ≡ self.old.journal.head) }
+        ensures ready { OnOk result (IsReady self.new.second (H.held self.new.disks.j0) (H.held self.new.disks.j1) self.new.journal) }
+        ensures full { (slot len : ℕ) → IsErrOf result (home_fail.Full slot len) ↔ ((2 ^ 40 < len) × (len ≡ self.old.journal.gate + 6 + length (spelled records.now)) × (slot ≡ slot_number self.old.second)) }
+        ensures full_same { (slot len : ℕ) → IsErrOf result (home_fail.Full slot len) → self.new ≡ self.old }
+        ensures fault { IsErrOf result home_fail.DiskFault → Rose (home_faults H.faults self.old.disks) (home_faults H.faults self.new.disks) }
+        ensures quiet { OnOk result (home_faults H.faults self.new.disks ≡ home_faults H.faults self.old.disks) }
+        ensures only { (f : HomeFail) → IsErrOf result f → IsOfWriting f }
+        ensures moment { self.old.disks.moments ≤ self.new.disks.moments }
+    {
+        self.append_records(records)
+    }
+
+    /// Makes the home stand for an image and the records behind it. It writes the other slot, which its last write makes the
+    /// live one. Takes no memory.
+    ///
+    /// Opening finds `f` on the home as it is, and each record may stand behind those before it and the image. Then a crash
+    /// at any moment since the call began, within a write too, leaves a home on which opening finds `f`, or the image and the
+    /// replay of the records behind it. After Ok opening finds that, whatever crash comes. After `DiskFault`, which comes
+    /// only where the home's count of faults rose, it finds one of the two, and this value is to be closed. `Full` comes
+    /// exactly where the image is longer than 2^40 bytes, and changes nothing.
+    pub fn compact(&mut self, whole: &Whole) -> Result<(), HomeFail>
+        requires { has_base whole.now.rest ≡ false }
+        ensures crash { (f : Found) → Keeps H.held H.past self.old.disks self.old.second self.old.journal f → HasRoom self.new.disks.moments → self.old.journal.head.generation < 2 ^ 62 → are_fit (blank_start whole.now.image).held whole.now.rest ≡ true
+            → FindsEither self.old.journal.head.node H.past self.old.disks.moments self.new.disks f (made_found whole.now.image whole.now.rest) }
+        ensures kept { (f : Found) → Keeps H.held H.past self.old.disks self.old.second self.old.journal f → HasRoom self.new.disks.moments → self.old.journal.head.generation < 2 ^ 62 → are_fit (blank_start whole.now.image).held whole.now.rest ≡ true
+            → OnOk result (FindsOnly self.new.journal.head.node H.past self.new.disks.moments self.new.disks (made_found whole.now.image whole.now.rest)) }
+        ensures keeps { (f : Found) → Keeps H.held H.past self.old.disks self.old.second self.old.journal f → HasRoom self.new.disks.moments → self.old.journal.head.generation < 2 ^ 62 → are_fit (blank_start whole.now.image).held whole.now.rest ≡ true
+            → OnOk result (Keeps H.held H.past self.new.disks self.new.second self.new.journal (made_found whole.now.image whole.now.rest)) }
+        ensures earlier { (f : Found) → Keeps H.held H.past self.old.disks self.old.second self.old.journal f → HasRoom self.new.disks.moments → IsEarlier H.past self.old.disks self.new.disks }
+        ensures head { OnOk result (self.new.journal.head ≡ next_head self.old.journal.head (length (image_bytes whole.now.image))) }
+        ensures ready { OnOk result (IsReady self.new.second (H.held self.new.disks.j0) (H.held self.new.disks.j1) self.new.journal) }
+        ensures full { (slot len : ℕ) → IsErrOf result (home_fail.Full slot len) ↔ ((2 ^ 40 < len) × (len ≡ length (image_bytes whole.now.image)) × (slot ≡ cond self.old.second 2 3)) }
+        ensures full_same { (slot len : ℕ) → IsErrOf result (home_fail.Full slot len) → self.new ≡ self.old }
+        ensures fault { IsErrOf result home_fail.DiskFault → Rose (home_faults H.faults self.old.disks) (home_faults H.faults self.new.disks) }
+        ensures quiet { OnOk result (home_faults H.faults self.new.disks ≡ home_faults H.faults self.old.disks) }
+        ensures only { (f : HomeFail) → IsErrOf result f → IsOfWriting f }
+        ensures moment { self.old.disks.moments ≤ self.new.disks.moments }
+    {
+        let image = image_bytes(&whole.image);
+        self.make_slot(image, &whole.rest)
     }
 }

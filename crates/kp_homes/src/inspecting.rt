@@ -7,7 +7,7 @@ ghost use Rattle.kp_homes.specs.declared.fail.HomeFail.TheVariants as home_fail;
 ghost use Rattle.kp_homes.specs.Stands.{Bytes4};
 ghost use Rattle.kp_homes.specs.Opening.{Holds, IsWithin};
 ghost use Rattle.kp_homes.specs.Reading.{IsUntouched, found_of};
-ghost use Rattle.kp_homes.specs.Homes.{IsKept};
+ghost use Rattle.kp_homes.specs.Homes.{IsKept, IsInRange};
 ghost use Rattle.kp_homes.specs.Inspects.{Inspects};
 
 use crate::fail::HomeFail;
@@ -32,6 +32,7 @@ fn live_slot(live: Live) -> LiveSlot
     ensures second { result.second ≡ live.second }
     ensures generation { result.generation ≡ live.journal.head.generation }
     ensures kept { IsKept result.kept (found_of live) }
+    ensures range { IsInRange result.kept }
 {
     let generation = live.journal.generation();
     let kept = Kept0 {
@@ -61,6 +62,7 @@ pub fn inspect<H: Disk>(
 ) -> Result<Option<LiveSlot>, HomeFail>
     ensures found { (b : Bytes4) → Holds H.held disks.old b → Inspects node b result }
     ensures room { IfOk result (λ live. IfSome live (λ s. IsWithin s.kept.image s.kept.rest.items)) }
+    ensures range { IfOk result (λ live. IfSome live (λ s. IsInRange s.kept)) }
     ensures fault { IsErrOf result home_fail.DiskFault → Rose (home_faults H.faults disks.old) (home_faults H.faults disks.new) }
     ensures quiet { OnOk result (home_faults H.faults disks.new ≡ home_faults H.faults disks.old) }
     ensures no_full { (slot len : ℕ) → IsErrOf result (home_fail.Full slot len) → ⊥ }

@@ -12,9 +12,11 @@ mod reading;
 mod replay;
 mod slot;
 mod syncing;
+mod whole;
 
 pub use fail::HomeFail;
 pub use home::Home;
 pub use inspecting::{LiveSlot, inspect};
 pub use kept::Kept0;
 pub use promises::{a_batch_is_replayed, a_slot_is_replayed, what_stands_is_found};
+pub use whole::Whole;

@@ -11,7 +11,7 @@ ghost use Rattle.kp_homes.specs.declared.fail.HomeFail.TheVariants as home_fail;
 ghost use Rattle.kp_homes.specs.Stands.{Bytes4, Stand, HomeLeft, IsAtRest, IsReady, Stands, StandsForEither, stands, choice, with_more, made};
 ghost use Rattle.kp_homes.specs.Opening.{AreTold, Finds, Found, Holds, IsEarlier, LeftNow, found, blank_found, booted, IsWithin, next_boot, first_head, first_records};
 ghost use Rattle.kp_homes.specs.Reading.{seen, found_of, IsLive};
-ghost use Rattle.kp_homes.specs.Homes.{IsKept, IsOfStart, IsOfFirst, Keeps, Opens, IsBootedOrNot, disks_of, fail_of};
+ghost use Rattle.kp_homes.specs.Homes.{IsKept, IsInRange, IsOfStart, IsOfFirst, Keeps, Opens, IsBootedOrNot, disks_of, fail_of};
 
 use crate::blank::{boot_record, first_head, first_records, write_first};
 use crate::fail::HomeFail;
@@ -27,7 +27,8 @@ use std::alloc::Global;
 
 // The number of the next start.
 fn next_boot(boot: u64) -> u64
-    ensures { result ≡ next_boot boot }
+    ensures next { result ≡ next_boot boot }
+    ensures limit { result ≤ 2 ^ 62 }
 {
     boot.saturating_add(1).min(LAST_NUMBER)
 }
@@ -63,6 +64,7 @@ fn start_live<H: Disk>(
     ensures rest { (b : Bytes4) (v : Stand) → Stands H.held H.past disks live.second live.journal b v → HasRoom (disks_of result).moments
         → IfOk result (λ x. (c : Bytes4) × Stands H.held H.past x.0.disks x.0.second x.0.journal c (with_more (record_.Boot (next_boot live.replay.boot) ∷ []) v)) }
     ensures kept { IfOk result (λ x. IsKept x.1 (booted (found_of live))) }
+    ensures range { IfOk result (λ x. IsInRange x.1) }
     ensures ready { IfOk result (λ x. IsReady x.0.second (H.held x.0.disks.j0) (H.held x.0.disks.j1) x.0.journal) }
     ensures node { IfOk result (λ x. x.0.journal.head.node ≡ live.journal.head.node) }
     ensures only { (f : HomeFail) → fail_of result ≡ Some f → IsOfStart f }
@@ -94,6 +96,7 @@ fn start_with<H: Disk>(
 ) -> Result<(Home<H>, Kept0), (HomeFail, Four<H>)>
     requires ready { IsReady live.second (H.held disks.j0) (H.held disks.j1) live.journal }
     requires boot { boot ≡ next_boot live.replay.boot }
+    requires limit { boot ≤ 2 ^ 62 }
     requires records { records.now ≡ record_.Boot boot ∷ [] }
     ensures crash { (b : Bytes4) (v : Stand) → Stands H.held H.past disks live.second live.journal b v → HasRoom (disks_of result).moments
         → StandsForEither live.journal.head.node H.past disks.moments (disks_of result) v (with_more records.now v) }
@@ -101,6 +104,7 @@ fn start_with<H: Disk>(
     ensures rest { (b : Bytes4) (v : Stand) → Stands H.held H.past disks live.second live.journal b v → HasRoom (disks_of result).moments
         → IfOk result (λ x. (c : Bytes4) × Stands H.held H.past x.0.disks x.0.second x.0.journal c (with_more records.now v)) }
     ensures kept { IfOk result (λ x. IsKept x.1 (booted (found_of live))) }
+    ensures range { IfOk result (λ x. IsInRange x.1) }
     ensures ready { IfOk result (λ x. IsReady x.0.second (H.held x.0.disks.j0) (H.held x.0.disks.j1) x.0.journal) }
     ensures node { IfOk result (λ x. x.0.journal.head.node ≡ live.journal.head.node) }
     ensures only { (f : HomeFail) → fail_of result ≡ Some f → IsOfStart f }
@@ -121,7 +125,7 @@ fn start_with<H: Disk>(
         second: live.second,
         journal: live.journal,
     };
-    match home.append_batch(records) {
+    match home.append_records(records) {
         Ok(()) => Ok((home, kept)),
         Err(fail) => {
             drop(kept);
@@ -142,6 +146,7 @@ fn start_blank<H: Disk>(
     ensures rest { (b : Bytes4) → IsAtRest H.held H.past disks b → choice b.j0 b.j1 ≡ None → HasRoom (disks_of result).moments
         → IfOk result (λ x. (c : Bytes4) × Stands H.held H.past x.0.disks x.0.second x.0.journal c (made (first_head node) [] first_records)) }
     ensures kept { IfOk result (λ x. IsKept x.1 (booted blank_found)) }
+    ensures range { IfOk result (λ x. IsInRange x.1) }
     ensures ready { IfOk result (λ x. IsReady x.0.second (H.held x.0.disks.j0) (H.held x.0.disks.j1) x.0.journal) }
     ensures node { IfOk result (λ x. x.0.journal.head.node ≡ node) }
     ensures only { (f : HomeFail) → fail_of result ≡ Some f → IsOfFirst f }
@@ -174,6 +179,7 @@ fn start_first<H: Disk>(
     ensures rest { (b : Bytes4) → IsAtRest H.held H.past disks b → choice b.j0 b.j1 ≡ None → HasRoom (disks_of result).moments
         → IfOk result (λ x. (c : Bytes4) × Stands H.held H.past x.0.disks x.0.second x.0.journal c (made head [] records.now)) }
     ensures kept { IfOk result (λ x. IsKept x.1 (booted blank_found)) }
+    ensures range { IfOk result (λ x. IsInRange x.1) }
     ensures ready { IfOk result (λ x. IsReady x.0.second (H.held x.0.disks.j0) (H.held x.0.disks.j1) x.0.journal) }
     ensures node { IfOk result (λ x. x.0.journal.head.node ≡ head.node) }
     ensures only { (f : HomeFail) → fail_of result ≡ Some f → IsOfFirst f }
@@ -198,7 +204,8 @@ fn start_first<H: Disk>(
 
 // What a server starts with that was never started.
 fn first_kept(alloc: Global) -> Kept0
-    ensures { IsKept result (booted blank_found) }
+    ensures kept { IsKept result (booted blank_found) }
+    ensures range { IsInRange result }
 {
     Kept0 {
         term: 0,
@@ -230,6 +237,7 @@ impl<H: Disk> Home<H> {
         ensures ready { IfOk result (λ x. IsReady x.0.second (H.held x.0.disks.j0) (H.held x.0.disks.j1) x.0.journal) }
         ensures node { IfOk result (λ x. x.0.journal.head.node ≡ node) }
         ensures room { IfOk result (λ x. IsWithin x.1.image x.1.rest.items) }
+        ensures range { IfOk result (λ x. IsInRange x.1) }
         ensures full { (slot len : ℕ) → fail_of result ≡ Some (home_fail.Full slot len) → 2 ^ 40 < len }
         ensures fault { fail_of result ≡ Some home_fail.DiskFault → Rose (home_faults H.faults disks) (home_faults H.faults (disks_of result)) }
         ensures moment { disks.moments ≤ (disks_of result).moments }

@@ -1,12 +1,13 @@
 //! Records that are replayed behind a base.
 
-ghost use Rattle.std.specs.Prelude.{ℕ, List, ◌∷◌, ◌≡◌, ◌+◌, ◌≤◌, ◌^◌, true, drop, get_or, slice_get, OnOk};
+ghost use Rattle.std.specs.Prelude.{ℕ, List, ◌∷◌, ◌≡◌, ◌+◌, ◌≤◌, ◌^◌, true, drop, get_or, slice_get, OnOk, IfSome};
 ghost use Rattle.kp_entry.specs.declared.record.Record.{Record};
 ghost use Rattle.kp_entry.specs.Held.{replay_one};
+ghost use Rattle.kp_entry.specs.Records.{IsRecord, IsRun};
 ghost use Rattle.kp_homes.specs.Opening.{boot_by, is_fit, refused_at, blank_start, restarted, Says, Goes};
 
 use crate::fail::HomeFail;
-use kp_entry::Record;
+use kp_entry::{Record, Records};
 use kp_journal::Journal;
 use kp_model::limits::LAST_NUMBER;
 use kp_model::{Entry, NoMemory};
@@ -26,11 +27,14 @@ pub(crate) struct Replay {
 }
 
 impl Model for Replay {
+    ghost use Rattle.std.specs.Prelude.{◌≤◌, ◌^◌};
     ghost use Rattle.kp_homes.specs.Opening.{Start};
 
     ghost Value = { Start };
 
     ghost view = { λ r. record { boot = r.boot; held = record { term = r.term; vote = r.vote; log = record { base = r.base; base_term = r.base_term; entries = r.entries.items } } } };
+
+    ghost invariant = { λ r. (r.vote ≤ 7) × (r.term ≤ 2 ^ 62) × (r.boot ≤ 2 ^ 62) };
 }
 
 impl Replay {
@@ -52,21 +56,24 @@ impl Replay {
 
     /// How often the server was started.
     pub(crate) fn boot(&self) -> u64
-        ensures { result ≡ self.now.boot }
+        ensures is { result ≡ self.now.boot }
+        ensures limit { result ≤ 2 ^ 62 }
     {
         self.boot
     }
 
     /// The term.
     pub(crate) fn term(&self) -> u64
-        ensures { result ≡ self.now.held.term }
+        ensures is { result ≡ self.now.held.term }
+        ensures limit { result ≤ 2 ^ 62 }
     {
         self.term
     }
 
     /// For whom the server voted in its term, or 0.
     pub(crate) fn vote(&self) -> u8
-        ensures { result ≡ self.now.held.vote }
+        ensures is { result ≡ self.now.held.vote }
+        ensures limit { result ≤ 7 }
     {
         self.vote
     }
@@ -93,7 +100,8 @@ impl Replay {
 
     // Takes a record in. Of a base, which is no record of a journal, nothing is taken.
     fn take(&mut self, next: Record) -> Result<(), NoMemory>
-        requires { is_fit self.old.held.log next ≡ true }
+        requires fit { is_fit self.old.held.log next ≡ true }
+        requires is { IsRecord next }
         ensures { OnOk result (self.new ≡ record { boot = boot_by self.old.boot next; held = replay_one self.old.held next }) }
     {
         match next {
@@ -129,13 +137,16 @@ impl Replay {
     ) -> Result<(), HomeFail>
         ensures { Goes result (restarted slot self.old (drop index journal.now.run.records) (drop index journal.now.run.places)) (restarted slot self.new (drop (index + 1) journal.now.run.records) (drop (index + 1) journal.now.run.places)) }
     {
-        let found = journal.records().get(alloc, index)?;
+        let records = journal.records();
+        are_records(records);
+        let found = records.get(alloc, index)?;
         let place = journal.place(index).unwrap_or(0);
         self.take_found(found, place, slot)
     }
 
     // Takes a record in, where there is one, that begins at this place.
     fn take_found(&mut self, found: Option<Record>, place: u64, slot: u64) -> Result<(), HomeFail>
+        requires { IfSome found IsRecord }
         ensures { (rs : List Record) (ps : List ℕ) (k : ℕ) → found ≡ slice_get rs k → get_or (drop k ps) 0 0 ≡ place → Goes result (restarted slot self.old (drop k rs) (drop k ps)) (restarted slot self.new (drop (k + 1) rs) (drop (k + 1) ps)) }
     {
         match found {
@@ -146,6 +157,7 @@ impl Replay {
 
     // Takes a record in that begins at this place, where it may stand.
     fn take_checked(&mut self, next: Record, place: u64, slot: u64) -> Result<(), HomeFail>
+        requires { IsRecord next }
         ensures { (rs : List Record) (ps : List ℕ) → get_or ps 0 0 ≡ place → Goes result (restarted slot self.old (next ∷ rs) ps) (restarted slot self.new rs (drop 1 ps)) }
     {
         if !self.is_fit(&next) {
@@ -174,6 +186,13 @@ impl Replay {
         }
         Ok(())
     }
+}
+
+// What is in a list of records is in the ranges of the format. There is no code.
+fn are_records(records: &Records)
+    ensures { IsRun records.now }
+{
+    let _bytes = records.bytes();
 }
 
 // The index and the term of the image's base.

@@ -55,3 +55,7 @@ pub mod Unasked
 pub mod Applies
 pub mod Asides
 pub mod Committed
+pub mod Noted
+pub mod Naming
+pub mod Delivered
+pub mod Kept

@@ -42,3 +42,7 @@ pub mod Prospects
 pub mod Guests
 pub mod Applied
 pub mod Commits
+pub mod Spoken
+pub mod Naming
+pub mod Delivering
+pub mod Keeping

@@ -10,12 +10,12 @@ use Rattle.kp_homes.proofs.open.start_live.Goals as goal
 
 pub returns-in-Ok-clause-crash : goal.returns-in-Ok-clause-crash
 returns-in-Ok-clause-crash g c b v st room =
-    let same : c.in-Ok.records ≡ record_.Boot (next_boot c.args.live.replay.boot) ∷ [] = c.in-Ok.ensures ∙ ap (λ (k : ℕ). record_.Boot k ∷ []) (c.next_boot-boot.ensures ∙ ap next_boot c.boot.ensures) in
+    let same : c.in-Ok.records ≡ record_.Boot (next_boot c.args.live.replay.boot) ∷ [] = c.in-Ok.ensures ∙ ap (λ (k : ℕ). record_.Boot k ∷ []) (c.next_boot-boot.ensures.next ∙ ap next_boot c.boot.ensures.is) in
     subst (λ (rs : List Record). StandsForEither c.args.live.journal.head.node g.H.Disk.past c.args.disks.moments (disks_of c.start_with-opened.result) v (with_more rs v)) same (c.start_with-opened.ensures.crash b v st room)
 
 pub returns-in-Ok-clause-rest : goal.returns-in-Ok-clause-rest
 returns-in-Ok-clause-rest g c b v st room =
-    let same : c.in-Ok.records ≡ record_.Boot (next_boot c.args.live.replay.boot) ∷ [] = c.in-Ok.ensures ∙ ap (λ (k : ℕ). record_.Boot k ∷ []) (c.next_boot-boot.ensures ∙ ap next_boot c.boot.ensures) in
+    let same : c.in-Ok.records ≡ record_.Boot (next_boot c.args.live.replay.boot) ∷ [] = c.in-Ok.ensures ∙ ap (λ (k : ℕ). record_.Boot k ∷ []) (c.next_boot-boot.ensures.next ∙ ap next_boot c.boot.ensures.is) in
     subst (λ (rs : List Record). IfOk c.start_with-opened.result (λ x. (d : Bytes4) × Stands g.H.Disk.held g.H.Disk.past x.0.disks x.0.second x.0.journal d (with_more rs v))) same (c.start_with-opened.ensures.rest b v st room)
 
 pub returns-in-Err-clause-crash : goal.returns-in-Err-clause-crash

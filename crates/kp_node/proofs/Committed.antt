@@ -217,13 +217,13 @@ module _ (p : Parts) (h : Holds p) (ends : p.member.vars.commit ≤ last_index p
     same_made : made ≡ all
     same_made = made_same ch
 
-    abbrev asked : raft.Outcome Snapshot
-    asked = reacted x (propose_if now all.desk.bodies)
+    abbrev answered : raft.Outcome Snapshot
+    answered = reacted x (propose_if now all.desk.bodies)
 
-    did_so : did ≡ asked
+    did_so : did ≡ answered
     did_so = asked_so p now bodies ∙ ap (λ (z : Greeting). reacted x (propose_if now z.desk.bodies)) same_made
 
-    quiet : IsPlain x asked
+    quiet : IsPlain x answered
     quiet = plain x now all.desk.bodies
 
     abbrev step_is : Stepped Snapshot
@@ -251,7 +251,7 @@ module _ (p : Parts) (h : Holds p) (ends : p.member.vars.commit ≤ last_index p
 
     image_is : None ≡ step_is.image
     unfolding together
-    image_is = no_image x asked quiet
+    image_is = no_image x answered quiet
 
     steps_so : Steps step_is p y (given_applied a (standing_of (node_of y)))
     unfolding together

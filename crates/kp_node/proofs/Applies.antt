@@ -11,7 +11,6 @@ use Rattle.kp_model.specs.declared.entry.Body.TheVariants as body
 use Rattle.kp_model.specs.declared.reply.Committed.{Committed}
 use Rattle.kp_model.specs.declared.reply.Event.{Event}
 use Rattle.kp_model.specs.declared.reply.Reply.{Reply}
-use Rattle.kp_model.specs.declared.reply.Reply.TheVariants as reply
 use Rattle.kp_model.specs.LogEntry.{LogEntry}
 use Rattle.kp_model.specs.Limits.{last_number}
 use Rattle.kp_model.specs.State.{State, Sessions}
@@ -29,17 +28,16 @@ use Rattle.kp_watch.specs.declared.watch.Watch.{Watch}
 use Rattle.kp_watch.specs.Watching.{fired, shown, somes}
 use Rattle.kp_wire.specs.declared.reply.WireReply.{WireReply}
 use Rattle.kp_conn.specs.declared.fed.Fed.{Fed}
-use Rattle.kp_conn.specs.declared.phase.Phase.{Phase}
 use Rattle.kp_conn.specs.declared.phase.Phase.TheVariants as phase
 use Rattle.kp_conn.specs.Connection.{Connection, blank, closed, put, opened, serving, is_lost}
-use Rattle.kp_conn.specs.Fed.{fed, fed_as, IsLive}
+use Rattle.kp_conn.specs.Fed.{fed}
 use Rattle.kp_conn.specs.Packets.{connect_packet}
 use Rattle.kp_wire.specs.declared.connect.ConnectReply.{ConnectReply}
 use Rattle.kp_step.specs.declared.seat.Seat.{Seat}
 use Rattle.kp_step.specs.Choices.{Choices}
 use Rattle.kp_step.specs.Handing as step
 use Rattle.kp_step.specs.Node.{Seats}
-use Rattle.kp_step.specs.Step.{swept, newly_ready, count_lost}
+use Rattle.kp_step.specs.Step.{swept, count_lost}
 use Rattle.kp_step.specs.Tables.{seated}
 use Rattle.kp_step.specs.Committing.{newcomer, heard_behind}
 use Rattle.kp_node.specs.declared.applying.Applied.{Applied}
@@ -49,8 +47,8 @@ use Rattle.kp_node.specs.declared.joining.Ground.{Ground}
 use Rattle.kp_node.specs.declared.prospects.Prospect.{Prospect}
 use Rattle.kp_node.specs.declared.serving.Handed.{Handed}
 use Rattle.kp_node.specs.declared.welcoming.Welcome.{Welcome}
-use Rattle.kp_node.specs.Applied.{made_in, made_of, store_behind, waits_for, SettlesSome, Finishes, MayFinish, IsPrepared, IsTable, IsApplied}
-use Rattle.kp_node.specs.Changing.{was_given_up, ready_among, idle_among, lost_among, ChangedAt}
+use Rattle.kp_node.specs.Applied.{made_of, store_behind, waits_for, Finishes, MayFinish, IsPrepared, IsTable, IsApplied}
+use Rattle.kp_node.specs.Changing.{was_given_up, ready_among, lost_among, ChangedAt}
 use Rattle.kp_node.specs.Concerned.{HasConcerned}
 use Rattle.kp_node.specs.Forgetting.{ended_by, forgotten}
 use Rattle.kp_node.specs.Greeting.{Greets, reply_with}
@@ -63,8 +61,8 @@ use Rattle.kp_node.specs.Meaning.{IsIndexed}
 use Rattle.kp_node.specs.Prospects.{newcomer_by, is_write, is_connecting, waits_at, guest_in, hears_in, IsAlone, IsProspect}
 use Rattle.kp_node.specs.Proposing.{AtDesk}
 use Rattle.kp_node.specs.Resting.{IsResting}
-use Rattle.kp_node.specs.Serving.{HandsOver, Serves}
-use Rattle.kp_node.specs.Welcoming.{asks_session, welcome_by, welcome_in, welcome_at, heard_of}
+use Rattle.kp_node.specs.Serving.{HandsOver}
+use Rattle.kp_node.specs.Welcoming.{asks_session, welcome_by, heard_of}
 use Rattle.kp_node.proofs.Behind.{welcome_law, heard_law}
 use Rattle.kp_node.proofs.Changed.{ready_law, lost_law}
 use Rattle.kp_node.proofs.Forgotten.{end_law}
@@ -76,7 +74,6 @@ use Rattle.kp_node.proofs.Placed.{not_none}
 use Rattle.kp_node.proofs.Seated.{guest_waits, is_waiting, no_write, no_packets}
 use Rattle.kp_node.proofs.Replied.{plain_table}
 use Rattle.kp_node.proofs.Tabled.{rows, chosen, by_luck}
-use Rattle.kp_node.proofs.Took.{fed_live}
 
 -- ---- deadlines
 

@@ -1,5 +1,5 @@
 -- A node that applied its next entry made the step.
-use Rattle.std.proofs.Common.{◌≡◌, ℕ, suc, zero, ◌+◌, ◌-◌, ◌≤◌, ◌<◌, ◌^◌, Bool, true, false, cond, ◌&&◌, not, List, [], ◌∷◌, ◌++◌, length, drop, Option, Some, None, is_some, refl, ap, sym, subst, ◌∙◌, arith}
+use Rattle.std.proofs.Common.{◌≡◌, ℕ, suc, zero, ◌+◌, ◌-◌, ◌≤◌, ◌<◌, ◌^◌, Bool, true, false, ◌&&◌, not, List, [], ◌∷◌, ◌++◌, length, drop, Option, Some, None, is_some, refl, ap, sym, subst, ◌∙◌, arith}
 use Rattle.std.proofs.lemmas.Bool.Decides.{nat_tests}
 use Rattle.std.specs.Prelude.{map, nat_lt, if◌then◌else◌, slice_get}
 use Rattle.std.specs.Ordering.{nat_cmp}
@@ -15,10 +15,10 @@ use Rattle.kp_model.specs.Step.{Outcome, apply}
 use Rattle.kp_model.specs.Store.{Store, after, last as last_of}
 use Rattle.kp_model.specs.Taken.{is_stale}
 use Rattle.kp_model.proofs.Applied.{applied-apply}
-use Rattle.kp_entry.specs.Log.{Log, behind, last_index}
+use Rattle.kp_entry.specs.Log.{behind, last_index}
 use Rattle.kp_entry.specs.Held.{replay}
 use Rattle.kp_raft.specs.declared.event.RaftOut.{RaftOut}
-use Rattle.kp_raft.specs.Members.{Member, running_of}
+use Rattle.kp_raft.specs.Members.{Member}
 use Rattle.kp_raft.specs.Parts as raft
 use Rattle.kp_raft.specs.Parts.{is_leader}
 use Rattle.kp_raft.specs.Steps.{added}
@@ -34,12 +34,12 @@ use Rattle.kp_conn.specs.Connection.{opened}
 use Rattle.kp_conn.specs.Fed.{fed}
 use Rattle.kp_step.specs.declared.seat.Seat.{Seat}
 use Rattle.kp_step.specs.Choices.{Choices, Luck}
-use Rattle.kp_step.specs.Node.{Node, Seats, unapplied, last, latest, leads}
+use Rattle.kp_step.specs.Node.{Node, Seats, unapplied, last, latest}
 use Rattle.kp_step.specs.Handing as step
 use Rattle.kp_step.specs.Handing.{ground, desk, greeting, greeted_as, served}
 use Rattle.kp_step.specs.Applying.{upcoming}
 use Rattle.kp_step.specs.Asking.{Words, asked, installed, reacted, propose_if, commit_input}
-use Rattle.kp_step.specs.Tables.{Table, with_row}
+use Rattle.kp_step.specs.Tables.{Table}
 use Rattle.kp_step.specs.Committing.{Greeting, greeted, greeted_by, greeted_at, greeted_in as greeted_by_phase, informed, committed, settled_behind, newcomer, session_of, session_at, number_in}
 use Rattle.kp_step.specs.Step.{Stepped, step, turned, together, commit_turn, standing_of, swept, newly_ready, is_ready, keeps_watches, count_lost, filled, forwarded}
 use Rattle.kp_step.proofs.Resting.{AllQuiet, committed_quiet}
@@ -51,9 +51,8 @@ use Rattle.kp_node.specs.Commits.{commit_with, commit_step, ground_of, IsCommitt
 use Rattle.kp_node.specs.Holding.{Holds, AreKept}
 use Rattle.kp_node.specs.Joining.{ground_in, desk_of}
 use Rattle.kp_node.specs.Parts.{Parts, parts, node_of}
-use Rattle.kp_node.specs.Proposing.{AtDesk, Does, proposed_to}
-use Rattle.kp_node.specs.Serving.{HandsOver, Proposes}
-use Rattle.kp_node.specs.Steps.{images, Steps, aside, quietly}
+use Rattle.kp_node.specs.Proposing.{Does, proposed_to}
+use Rattle.kp_node.specs.Steps.{images, Steps, quietly}
 use Rattle.kp_node.proofs.Applies.{first_is}
 use Rattle.kp_node.proofs.Asked.{same_last, asked_so, plain, no_image, IsPlain, unapplied_stays, from_stays, to_stays}
 use Rattle.kp_node.proofs.Lasting.{served_none}

@@ -1,6 +1,6 @@
 -- An entry with a guest, once the guest is back at its place, is the table of the definition.
 use Rattle.std.proofs.Common.{◌≡◌, ℕ, Bool, true, false, cond, List, [], Option, Some, None, is_some, refl, ap, sym, subst, ◌∙◌}
-use Rattle.std.specs.Prelude.{nat_eq, if◌then◌else◌, IsSome}
+use Rattle.std.specs.Prelude.{nat_eq}
 use Rattle.std.specs.Option.{option_map}
 use Rattle.std.specs.List.{list_any}
 use Rattle.std.specs.Cmp.{nat_eq_equiv}
@@ -9,11 +9,8 @@ use Rattle.kp_model.specs.declared.entry.Body.{Body}
 use Rattle.kp_model.specs.declared.entry.Body.TheVariants as body
 use Rattle.kp_model.specs.declared.reply.Event.{Event}
 use Rattle.kp_model.specs.declared.reply.Reply.{Reply}
-use Rattle.kp_model.specs.declared.reply.Reply.TheVariants as reply
-use Rattle.kp_model.specs.declared.session.Origin.{Origin}
 use Rattle.kp_model.specs.State.{Sessions}
 use Rattle.kp_model.specs.Step.{Outcome}
-use Rattle.kp_model.specs.Taken.{is_stale}
 use Rattle.kp_seats.specs.Seating.{Seating, holding, roomy}
 use Rattle.kp_seats.specs.Serving.{IsServer, is_that, serves}
 use Rattle.kp_seats.specs.Walked.{SameBeside}
@@ -29,7 +26,7 @@ use Rattle.kp_step.specs.Choices.{Choices, Luck}
 use Rattle.kp_step.specs.Handing as step
 use Rattle.kp_step.specs.Node.{Seats}
 use Rattle.kp_step.specs.Tables.{seated, with_row}
-use Rattle.kp_step.specs.Committing.{is_of, conn_of, newcomer, session_of, session_at, hears, packets_for, meaning}
+use Rattle.kp_step.specs.Committing.{is_of, conn_of, session_of, session_at, hears, packets_for, meaning}
 use Rattle.kp_node.specs.declared.welcoming.Welcome.{Welcome}
 use Rattle.kp_step.specs.Step.{swept}
 use Rattle.kp_node.specs.Applied.{told_in, made_in, IsTable}
@@ -48,7 +45,7 @@ use Rattle.kp_node.specs.Welcoming.{welcome_by, welcome_in}
 use Rattle.kp_node.proofs.Concerns.{informed_law}
 use Rattle.kp_node.proofs.Maps.{no, get-put, same_number}
 use Rattle.kp_node.proofs.Placed.{kept_changed, listed, changed_more, indexed_joined, served_joined, guest_session, served_session, served_others, attach_ousts, attach_welcome, not_none}
-use Rattle.kp_node.proofs.Seated.{ServedBy, served_by_luck, unserved_by_luck, any_luck, with_guest, guest_seats, guest_watches, guest_desk}
+use Rattle.kp_node.proofs.Seated.{ServedBy, served_by_luck, any_luck, with_guest, guest_seats, guest_watches, guest_desk}
 use Rattle.kp_node.proofs.Staying.{left_all}
 use Rattle.kp_node.proofs.Tabled.{rows, chosen, by_luck}
 

@@ -1,19 +1,17 @@
 -- Behind an entry: the index of sessions with a guest in it, which connections changed, and whose watches there are.
 use Rattle.std.proofs.Common.{◌≡◌, ℕ, Bool, true, false, cond, not, ◌&&◌, ◌||◌, List, [], ◌∷◌, Option, Some, None, is_some, refl, ap, sym, subst, ◌∙◌}
 use Rattle.std.specs.Prelude.{nat_eq, if◌then◌else◌, ◌==◌}
-use Rattle.std.specs.Option.{option_map}
-use Rattle.std.specs.List.{list_any, filter, AllByRecursion}
+use Rattle.std.specs.List.{list_any, AllByRecursion}
 use Rattle.std.specs.Cmp.{nat_eq_equiv}
 use Rattle.std.specs.FinMap as map
-use Rattle.kp_model.specs.declared.entry.Body.{Body}
 use Rattle.kp_model.specs.declared.entry.Body.TheVariants as body
 use Rattle.kp_model.specs.declared.reply.Reply.{Reply}
 use Rattle.kp_model.specs.declared.reply.Reply.TheVariants as reply
 use Rattle.kp_model.specs.declared.session.Origin.{Origin}
 use Rattle.kp_model.specs.declared.session.Session.{Session}
-use Rattle.kp_model.specs.State.{Sessions, same_origin}
-use Rattle.kp_seats.specs.Seating.{Seating, holding, joined}
-use Rattle.kp_seats.specs.Serving.{Served as Sessions_, IsServer, is_that, serves, without}
+use Rattle.kp_model.specs.State.{Sessions}
+use Rattle.kp_seats.specs.Seating.{Seating, holding}
+use Rattle.kp_seats.specs.Serving.{is_that, serves, without}
 use Rattle.kp_seats.proofs.Tied.{get-without}
 use Rattle.kp_watch.specs.declared.watch.Watch.{Watch}
 use Rattle.kp_watch.specs.Watching.{dropped}
@@ -26,12 +24,12 @@ use Rattle.kp_conn.specs.Connection as conn
 use Rattle.kp_conn.specs.Fed.{fed}
 use Rattle.kp_conn.specs.Packets.{connect_packet}
 use Rattle.kp_step.specs.declared.seat.Seat.{Seat}
-use Rattle.kp_step.specs.Choices.{Choices, Luck}
+use Rattle.kp_step.specs.Choices.{Choices}
 use Rattle.kp_step.specs.Answers.{by_move}
 use Rattle.kp_step.specs.Handing as step
 use Rattle.kp_step.specs.Handing.{served}
 use Rattle.kp_step.specs.Node.{Seats}
-use Rattle.kp_step.specs.Settling.{Settled, stays, refused, refused_if}
+use Rattle.kp_step.specs.Settling.{refused, refused_if}
 use Rattle.kp_step.specs.Step.{keeps_watches}
 use Rattle.kp_step.specs.Committing.{is_of, conn_of, meaning}
 use Rattle.kp_step.proofs.Commits.{refuse_all}

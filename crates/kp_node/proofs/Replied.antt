@@ -10,7 +10,7 @@ use Rattle.kp_model.specs.State.{State}
 use Rattle.kp_model.specs.Step.{Outcome}
 use Rattle.kp_seats.specs.Seating.{Seating}
 use Rattle.kp_seats.specs.Serving.{is_that}
-use Rattle.kp_seats.specs.Walked.{IsStep, Becomes, SameBeside}
+use Rattle.kp_seats.specs.Walked.{Becomes, SameBeside}
 use Rattle.kp_watch.specs.declared.watch.Fired.{Fired}
 use Rattle.kp_watch.specs.declared.watch.Watch.{Watch}
 use Rattle.kp_watch.specs.Watching.{fired, shown, somes}
@@ -21,9 +21,9 @@ use Rattle.kp_step.specs.Handing as step
 use Rattle.kp_step.specs.Node.{Seats}
 use Rattle.kp_step.specs.Settling.{settled}
 use Rattle.kp_step.specs.Step.{swept}
-use Rattle.kp_step.specs.Tables.{Table, with_row}
+use Rattle.kp_step.specs.Tables.{with_row}
 use Rattle.kp_step.specs.Committing.{Greeting, settled_behind}
-use Rattle.kp_node.specs.Applied.{told_in, greeted_in, made_in, waits_for, SettlesSome, IsTable}
+use Rattle.kp_node.specs.Applied.{told_in, made_in, waits_for, SettlesSome, IsTable}
 use Rattle.kp_node.specs.Changing.{ChangedAt, AreKeptBut}
 use Rattle.kp_node.specs.Concerned.{HasConcerned, subject, IsSubject}
 use Rattle.kp_node.specs.Ending.{SeatSettles}

@@ -8,8 +8,6 @@ use Rattle.std.specs.FinMap as map
 use Rattle.kp_model.specs.declared.entry.Body.{Body}
 use Rattle.kp_model.specs.declared.entry.Body.TheVariants as body
 use Rattle.kp_model.specs.declared.reply.Event.{Event}
-use Rattle.kp_model.specs.declared.session.Origin.{Origin}
-use Rattle.kp_model.specs.State.{State}
 use Rattle.kp_model.specs.Step.{Outcome}
 use Rattle.kp_model.specs.Taken.{is_stale}
 use Rattle.kp_watch.specs.declared.watch.Fired.{Fired}
@@ -20,7 +18,7 @@ use Rattle.kp_conn.specs.declared.fed.FedEnd.{FedEnd}
 use Rattle.kp_conn.specs.declared.fed.FedEnd.TheVariants as ends
 use Rattle.kp_conn.specs.declared.phase.Phase.{Phase}
 use Rattle.kp_conn.specs.declared.phase.Phase.TheVariants as phase
-use Rattle.kp_conn.specs.Connection.{Connection, blank, closed, opened, is_over}
+use Rattle.kp_conn.specs.Connection.{Connection, blank, closed, is_over}
 use Rattle.kp_step.specs.declared.seat.Seat.{Seat}
 use Rattle.kp_step.specs.Choices.{Choices, Luck}
 use Rattle.kp_step.specs.Handing as step
@@ -29,7 +27,7 @@ use Rattle.kp_step.specs.Node.{Seats}
 use Rattle.kp_step.specs.Settling.{is_at_rest}
 use Rattle.kp_step.specs.Step.{swept}
 use Rattle.kp_step.specs.Tables.{Table, seated, with_row, with_served}
-use Rattle.kp_step.specs.Committing.{Greeting, is_of, is_in, packets_for, conn_of, newcomer, session_of, session_at, number_in, greeted, greeted_by, greeted_at, greeted_in as greeted_by_phase, meaning, settled_behind}
+use Rattle.kp_step.specs.Committing.{Greeting, packets_for, newcomer, session_of, session_at, number_in, greeted, greeted_by, greeted_at, greeted_in as greeted_by_phase, meaning, settled_behind}
 use Rattle.kp_step.proofs.Serves.{choose}
 use Rattle.kp_step.proofs.Settles.{settled-rests}
 use Rattle.kp_node.specs.declared.welcoming.Welcome.{Welcome}
@@ -44,7 +42,7 @@ use Rattle.kp_node.specs.Touching.{concerns}
 use Rattle.kp_node.specs.Welcoming.{welcome_in}
 use Rattle.kp_node.proofs.Concerns.{hears_none, unheard}
 use Rattle.kp_node.proofs.Greets.{greeting_law}
-use Rattle.kp_node.proofs.Maps.{no, get-put, same, same_number}
+use Rattle.kp_node.proofs.Maps.{no, get-put, same}
 use Rattle.kp_node.proofs.Tabled.{rows, at_rows, by_luck, told_rests, none_settled, kept_sweeps}
 use Rattle.kp_node.proofs.Touched.{others_stay}
 

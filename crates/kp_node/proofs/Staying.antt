@@ -1,5 +1,5 @@
 -- What holds of each watch holds of each that is left behind events.
-use Rattle.std.proofs.Common.{◌≡◌, ℕ, Bool, true, false, cond, not, List, [], ◌∷◌, refl}
+use Rattle.std.proofs.Common.{Bool, true, false, cond, not, List, [], ◌∷◌}
 use Rattle.std.specs.List.{filter, AllByRecursion}
 use Rattle.kp_model.specs.declared.reply.Event.{Event}
 use Rattle.kp_model.specs.declared.reply.Event.TheVariants as event

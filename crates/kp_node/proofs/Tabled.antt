@@ -5,7 +5,6 @@ use Rattle.std.specs.Option.{option_map}
 use Rattle.std.specs.Ordering.{nat_cmp, eq_by_cmp}
 use Rattle.std.specs.Cmp.{nat_eq_equiv, unsigned_tied}
 use Rattle.std.specs.FinMap as map
-use Rattle.std.specs.FinMap.{FinMap}
 use Rattle.kp_model.specs.declared.command.Cmd.{Cmd}
 use Rattle.kp_model.specs.declared.entry.Body.{Body}
 use Rattle.kp_model.specs.declared.entry.Body.TheVariants as body
@@ -43,7 +42,7 @@ use Rattle.kp_node.proofs.Ends.{settled_law}
 use Rattle.kp_node.proofs.Maps.{no, get-put, same, same_number}
 use Rattle.kp_node.proofs.Meant.{not_its}
 use Rattle.kp_node.proofs.Resting.{all-rest}
-use Rattle.kp_node.proofs.Rows.{row, row_off, row_rests, write_rests}
+use Rattle.kp_node.proofs.Rows.{row_off, row_rests, write_rests}
 
 -- ---- one place
 

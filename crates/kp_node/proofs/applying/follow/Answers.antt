@@ -1,5 +1,4 @@
-use Rattle.std.proofs.Common.{arith, ◌≤◌, length, ◌∙◌, ap}
-use Rattle.kp_node.specs.Changing.{lost_among}
+use Rattle.std.proofs.Common.{arith, length, ap}
 use Rattle.kp_node.proofs.Applies.{lost_few}
 use Rattle.kp_node.proofs.applying.follow.Goals as goal
 

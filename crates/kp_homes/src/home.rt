@@ -80,6 +80,7 @@ impl<H: Disk> Home<H> {
         ensures full { (len : ℕ) → IsErrOf result (journal_fail.Full len) ↔ ((2 ^ 40 < len) × (len ≡ self.old.journal.gate + 6 + length (spelled records.now))) }
         ensures full_same { (len : ℕ) → IsErrOf result (journal_fail.Full len) → self.new ≡ self.old }
         ensures fault { IsErrOf result journal_fail.DiskFault → Rose (home_faults H.faults self.old.disks) (home_faults H.faults self.new.disks) }
+        ensures quiet { OnOk result (home_faults H.faults self.new.disks ≡ home_faults H.faults self.old.disks) }
         ensures only { (f : JournalFail) → IsErrOf result f → IsOfAppend f }
         ensures moment { self.old.disks.moments ≤ self.new.disks.moments }
     {
@@ -108,6 +109,7 @@ impl<H: Disk> Home<H> {
         ensures full { (slot len : ℕ) → IsErrOf result (home_fail.Full slot len) ↔ ((2 ^ 40 < len) × (len ≡ self.old.journal.gate + 6 + length (spelled records.now)) × (slot ≡ slot_number self.old.second)) }
         ensures full_same { (slot len : ℕ) → IsErrOf result (home_fail.Full slot len) → self.new ≡ self.old }
         ensures fault { IsErrOf result home_fail.DiskFault → Rose (home_faults H.faults self.old.disks) (home_faults H.faults self.new.disks) }
+        ensures quiet { OnOk result (home_faults H.faults self.new.disks ≡ home_faults H.faults self.old.disks) }
         ensures only { (f : HomeFail) → IsErrOf result f → IsOfWriting f }
         ensures moment { self.old.disks.moments ≤ self.new.disks.moments }
     {
@@ -132,6 +134,7 @@ impl<H: Disk> Home<H> {
         ensures second { self.new.second ≡ self.old.second }
         ensures ready { OnOk result (IsReady (not self.old.second) (H.held self.new.disks.j0) (H.held self.new.disks.j1) (unread head (27 + length (spelled records.now)))) }
         ensures fault { IsErr result → Rose (home_faults H.faults self.old.disks) (home_faults H.faults self.new.disks) }
+        ensures quiet { OnOk result (home_faults H.faults self.new.disks ≡ home_faults H.faults self.old.disks) }
         ensures moment { self.old.disks.moments ≤ self.new.disks.moments }
     {
         let body = records.bytes();
@@ -172,6 +175,7 @@ impl<H: Disk> Home<H> {
         ensures full { (slot len : ℕ) → IsErrOf result (home_fail.Full slot len) ↔ ((2 ^ 40 < len) × (len ≡ length image.now) × (slot ≡ cond self.old.second 2 3)) }
         ensures full_same { (slot len : ℕ) → IsErrOf result (home_fail.Full slot len) → self.new ≡ self.old }
         ensures fault { IsErrOf result home_fail.DiskFault → Rose (home_faults H.faults self.old.disks) (home_faults H.faults self.new.disks) }
+        ensures quiet { OnOk result (home_faults H.faults self.new.disks ≡ home_faults H.faults self.old.disks) }
         ensures only { (f : HomeFail) → IsErrOf result f → IsOfWriting f }
         ensures moment { self.old.disks.moments ≤ self.new.disks.moments }
     {
@@ -213,6 +217,7 @@ impl<H: Disk> Home<H> {
         ensures full { (slot len : ℕ) → IsErrOf result (home_fail.Full slot len) ↔ ((2 ^ 40 < len) × (len ≡ self.old.journal.gate + 6 + length (spelled records.now)) × (slot ≡ slot_number self.old.second)) }
         ensures full_same { (slot len : ℕ) → IsErrOf result (home_fail.Full slot len) → self.new ≡ self.old }
         ensures fault { IsErrOf result home_fail.DiskFault → Rose (home_faults H.faults self.old.disks) (home_faults H.faults self.new.disks) }
+        ensures quiet { OnOk result (home_faults H.faults self.new.disks ≡ home_faults H.faults self.old.disks) }
         ensures only { (f : HomeFail) → IsErrOf result f → IsOfWriting f }
         ensures moment { self.old.disks.moments ≤ self.new.disks.moments }
     {
@@ -241,6 +246,7 @@ impl<H: Disk> Home<H> {
         ensures full { (slot len : ℕ) → IsErrOf result (home_fail.Full slot len) ↔ ((2 ^ 40 < len) × (len ≡ length (image_bytes whole.now.image)) × (slot ≡ cond self.old.second 2 3)) }
         ensures full_same { (slot len : ℕ) → IsErrOf result (home_fail.Full slot len) → self.new ≡ self.old }
         ensures fault { IsErrOf result home_fail.DiskFault → Rose (home_faults H.faults self.old.disks) (home_faults H.faults self.new.disks) }
+        ensures quiet { OnOk result (home_faults H.faults self.new.disks ≡ home_faults H.faults self.old.disks) }
         ensures only { (f : HomeFail) → IsErrOf result f → IsOfWriting f }
         ensures moment { self.old.disks.moments ≤ self.new.disks.moments }
     {

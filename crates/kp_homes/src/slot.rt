@@ -89,6 +89,7 @@ pub(crate) fn new_slot<D: Disk>(
         → OnOk result (IsDone moments.new (filled head body.now (closed_head xj)) (D.held journal.new) (D.past journal.new) × IsDone moments.new bytes.now (D.held image.new) (D.past image.new)) }
     ensures moment { moments.old ≤ moments.new }
     ensures cause { IsErr result → Rose (D.faults journal.old + D.faults image.old) (D.faults journal.new + D.faults image.new) }
+    ensures quiet { OnOk result (D.faults journal.new + D.faults image.new ≡ D.faults journal.old + D.faults image.old) }
 {
     close_head(journal, moments)?;
     write_image(image, bytes, moments)?;

@@ -141,6 +141,7 @@ impl Journal {
         ensures full { (len : ℕ) → IsErrOf result (fail.Full len) ↔ ((2 ^ 40 < len) × (len ≡ self.old.gate + 6 + length (spelled records.now))) }
         ensures full_same { (len : ℕ) → IsErrOf result (fail.Full len) → (disk.new ≡ disk.old) × (moments.new ≡ moments.old) }
         ensures fault { IsErrOf result fail.DiskFault → Rose (D.faults disk.old) (D.faults disk.new) }
+        ensures quiet { OnOk result (D.faults disk.new ≡ D.faults disk.old) }
         ensures only { (f : JournalFail) → IsErrOf result f → IsOfAppend f }
         ensures moment { moments.old ≤ moments.new }
     {

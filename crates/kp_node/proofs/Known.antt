@@ -177,3 +177,53 @@ module _ (now : ℕ) (s : State) (ids : List ℕ) (old m m' : FinMap nat_cmp Hea
   pub heard_at_end : length ids ≤ i → hear_all now s m (drop i ids) ≡ hear_all now s old ids → m ≡ hear_all now s old ids
   unfolding hear_all
   heard_at_end l h = ap (hear_all now s m) (sym (drop_none ids i l)) ∙ h
+
+-- ---- what was admitted is heard as if it hadn't been
+
+-- when a session was heard, behind its hearing
+abbrev heard_as : ℕ → ℕ → Option Session → Option Heard → Option Heard
+heard_as now q None o = o
+heard_as now q (Some x) o = Some (heard_at now q x.timeout)
+
+module _ (now : ℕ) (s : State) where
+  hear_here : (m : FinMap nat_cmp Heard) (q : ℕ) (x : Option Session) → map.get (hear_in now q x m) q ≡ heard_as now q x (map.get m q)
+  hear_here m q None = refl
+  hear_here m q (Some x) = get-put m q (heard_at now q x.timeout) q ∙ ap (λ b. cond b (Some (heard_at now q x.timeout)) (map.get m q)) (nat_eq_equiv.refl q)
+
+  hear_there : (m : FinMap nat_cmp Heard) (id q : ℕ) (x : Option Session) → nat_eq q id ≡ false → map.get (hear_in now id x m) q ≡ map.get m q
+  hear_there m id q None e = refl
+  hear_there m id q (Some x) e = get-put m id (heard_at now id x.timeout) q ∙ ap (λ b. cond b (Some (heard_at now id x.timeout)) (map.get m q)) (nat_eq_equiv.symm id q ∙ e)
+
+  get-hear : (m : FinMap nat_cmp Heard) (id q : ℕ) (b : Bool) → nat_eq q id ≡ b → map.get (hear now s m id) q ≡ cond b (heard_as now q (map.get s.sessions q) (map.get m q)) (map.get m q)
+  get-hear m id q true e = subst (λ k. map.get (hear now s m k) q ≡ heard_as now q (map.get s.sessions q) (map.get m q)) (same_number q id e) (hear_here m q (map.get s.sessions q))
+  get-hear m id q false e = hear_there m id q (map.get s.sessions id) e
+
+  twice : (q : ℕ) (a b : Bool) (x : Option Session) (o : Option Heard) → cond a (heard_as now q x (cond b (heard_as now q x o) o)) (cond b (heard_as now q x o) o) ≡ cond (b || a) (heard_as now q x o) o
+  twice q true true None o = refl
+  twice q true true (Some x) o = refl
+  twice q true false x o = refl
+  twice q false true x o = refl
+  twice q false false x o = refl
+
+  get-hear_all : (m : FinMap nat_cmp Heard) (ids : List ℕ) (q : ℕ) → map.get (hear_all now s m ids) q ≡ cond (has ids q) (heard_as now q (map.get s.sessions q) (map.get m q)) (map.get m q)
+  unfolding hear_all
+  get-hear_all m [] q = refl
+  get-hear_all m (id ∷ ids) q = get-hear_all (hear now s m id) ids q
+      ∙ ap (λ o. cond (has ids q) (heard_as now q (map.get s.sessions q) o) o) (get-hear m id q (nat_eq q id) refl)
+      ∙ twice q (has ids q) (nat_eq q id) (map.get s.sessions q) (map.get m q)
+
+  both_heard : (q : ℕ) (b : Bool) (x : Option Session) (o p : Option Heard) → b ≡ true → is_some x ≡ true → cond b (heard_as now q x o) o ≡ cond b (heard_as now q x p) p
+  both_heard q true (Some x) o p e f = refl
+  both_heard q true None o p e f = no false refl f
+  both_heard q false x o p e f = no false refl e
+
+  module _ (ids : List ℕ) (old : FinMap nat_cmp Heard) (list : List ℕ) (new : FinMap nat_cmp Heard) (a : IsAdmitted s.sessions ids old list new) where
+    was_heard : (q : ℕ) → map.get old q ≡ cond (has list q) None (map.get new q)
+    was_heard q = ap (λ m. map.get m q) (sym a.back) ∙ get-forgotten new list q
+
+    alike_at : (q : ℕ) (b : Bool) → has list q ≡ b → cond (has ids q) (heard_as now q (map.get s.sessions q) (map.get new q)) (map.get new q) ≡ cond (has ids q) (heard_as now q (map.get s.sessions q) (map.get old q)) (map.get old q)
+    alike_at q true e = both_heard q (has ids q) (map.get s.sessions q) (map.get new q) (map.get old q) (a.among q e).0 (a.among q e).1
+    alike_at q false e = ap (λ o. cond (has ids q) (heard_as now q (map.get s.sessions q) o) o) (sym (was_heard q ∙ ap (λ b. cond b None (map.get new q)) e))
+
+    pub heard_alike : hear_all now s new ids ≡ hear_all now s old ids
+    heard_alike = same _ _ (λ q. get-hear_all new ids q ∙ alike_at q (has list q) refl ∙ sym (get-hear_all old ids q))

@@ -44,3 +44,7 @@ pub mod Ends
 pub mod Greets
 pub mod Forgotten
 pub mod Writes
+pub mod Noted
+pub mod Naming
+pub mod Delivered
+pub mod Kept

@@ -303,7 +303,7 @@ either_none : (p : Bool) (a : Option Snapshot) → a ≡ None → cond p a None 
 either_none true a h = h
 either_none false a h = refl
 
-no_image : (m : Member) (q : Mail Snapshot) → IsUsual q → image_of m.members m.node m.held (running_of m) (asked.Deliver q) ≡ None
+pub no_image : (m : Member) (q : Mail Snapshot) → IsUsual q → image_of m.members m.node m.held (running_of m) (asked.Deliver q) ≡ None
 no_image m (mail.VoteReq t from last last_term) h = either_none (passes {I = Snapshot} m.members m.node (last_index m.held.log) (mail.VoteReq t from last last_term)) None refl
 no_image m (mail.VoteRep t from granted) h = either_none (passes {I = Snapshot} m.members m.node (last_index m.held.log) (mail.VoteRep t from granted)) None refl
 no_image m (mail.Append a) h = absurd h

@@ -27,7 +27,7 @@ use Rattle.kp_step.specs.Node.{Node, Seats}
 use Rattle.kp_step.specs.Asking.{cut_of}
 use Rattle.kp_step.specs.Committing.{hear_all}
 use Rattle.kp_step.specs.Tables.{with_row, tabled}
-use Rattle.kp_step.specs.Step.{together, raft_table, with_row_if, risen, named, heard_after, all_heard, standing_of, swept, count_lost, newly_ready, is_ready, keeps_watches, answers_append, filled}
+use Rattle.kp_step.specs.Step.{together, raft_table, with_row_if, risen, became_leader, named, heard_after, all_heard, standing_of, swept, count_lost, newly_ready, is_ready, keeps_watches, answers_append, filled}
 use Rattle.kp_step.proofs.Resting.{raft_quiet, AllQuiet}
 use Rattle.kp_step.specs.Asking.{own_image}
 use Rattle.kp_node.specs.declared.raft_events.Reaction.{Reaction}
@@ -35,7 +35,7 @@ use Rattle.kp_node.specs.Parts.{Parts, node_of}
 use Rattle.kp_node.specs.Holding.{Holds, AreKept, served_at}
 use Rattle.kp_node.specs.Steps.{images, Steps}
 use Rattle.kp_node.specs.Foreseen.{reaction, becomes_leader, rises, noops, with_noops, log_with, IsForeseen, IsUsual, NamesNone}
-use Rattle.kp_node.specs.Reactions.{raft_step, Turns, heard_if, IsReaction, given_by}
+use Rattle.kp_node.specs.Reactions.{raft_step, Turns, heard_if, IsReaction, IsDelivered, given_by}
 use Rattle.kp_node.proofs.Maps.{filter_none, kept_all}
 use Rattle.kp_node.proofs.Risen.{choices, risen_seats}
 
@@ -109,7 +109,7 @@ behind_with : (b : Bool) (lead : Option ℕ) (l : Log) (i : ℕ) → i ≤ last_
 behind_with true lead l i h = sym (drop-append-le (i - l.base) l.entries (noops lead) (omega (arith, h)))
 behind_with false lead l i h = append-nil (behind l i)
 
-module _ (now : ℕ) (e : RaftEvent Snapshot) (may_rise : Bool) (lead : Option ℕ) (x y : Parts) (r : Reaction) (h : Holds x) (f : IsForeseen x.member e may_rise lead) (d : IsReaction now e lead x r y) where
+module _ (e : RaftEvent Snapshot) (may_rise : Bool) (lead : Option ℕ) (x y : Parts) (r : Reaction) (h : Holds x) (f : IsForeseen x.member e may_rise lead) (d : IsReaction e lead x r y) where
   made : Tables (rises x.member e) x.store.state.applied x.seating x.watches y.seating y.watches r.ready r.lost
   made = tables (rises x.member e) x.store.state.applied x.seating x.watches y.seating y.watches r.ready r.lost d.turns h.kept h.served
 
@@ -124,14 +124,7 @@ module _ (now : ℕ) (e : RaftEvent Snapshot) (may_rise : Bool) (lead : Option �
   state_stays : y.store.state ≡ x.store.state
   state_stays = ap (λ s. s.state) d.store
 
-  none_named : (ids : List ℕ) → ids ≡ [] → hear_all now x.store.state x.heard ids ≡ x.heard
-  unfolding hear_all
-  none_named ids none = ap (hear_all now x.store.state x.heard) none
-
-  module _ (v : NodeEventKind (Mail Snapshot)) (unnamed : named (node_of x) (reaction x.member e) v ≡ []) (uncut : (room : Option ℕ) → cut_of room (node_of x) v ≡ None) where
-    heard_are : y.heard ≡ heard_after (node_of x) now v (reaction x.member e) None x.store.state
-    heard_are = d.heard ∙ ap (λ m. if becomes_leader x.member e then all_heard now x.store.state.sessions else m) (sym (none_named _ unnamed))
-
+  module _ (now : ℕ) (v : NodeEventKind (Mail Snapshot)) (heard_are : y.heard ≡ heard_after (node_of x) now v (reaction x.member e) None x.store.state) (uncut : (room : Option ℕ) → cut_of room (node_of x) v ≡ None) where
     spoken_are : y.spoken ≡ (if answers_append (reaction x.member e) then [] else x.spoken)
     spoken_are = d.spoken ∙ sym (ap (λ b. if b then [] else x.spoken) f.silent)
 
@@ -197,14 +190,14 @@ module _ (now : ℕ) (e : RaftEvent Snapshot) (may_rise : Bool) (lead : Option �
 
 -- ---- as the code has it
 
-module _ (p : Parts) (now : ℕ) (e : RaftEvent Snapshot) (may_rise : Bool) (lead : Option ℕ) (m : Member) (s : Store) (u : Seating Seat) (vs : List Watch) (heard : FinMap nat_cmp Heard) (out : RaftOut Snapshot) (ready : List ℕ) (lost term term' zxid : ℕ) (led : Bool) where
+module _ (p : Parts) (e : RaftEvent Snapshot) (may_rise : Bool) (lead : Option ℕ) (m : Member) (s : Store) (u : Seating Seat) (vs : List Watch) (heard : FinMap nat_cmp Heard) (out : RaftOut Snapshot) (ready : List ℕ) (lost term term' zxid : ℕ) (led : Bool) where
   abbrev behind_it : Parts
   behind_it = record { member = m; store = s; seating = u; watches = vs; heard = heard; spoken = p.spoken; boot = p.boot; events = p.events + 1 }
 
   pub reacted : RaftSteps p.member (reaction p.member e) out m → led ≡ becomes_leader p.member e → s ≡ with_noops led lead p.store
-      → term ≡ p.member.held.term → term' ≡ m.held.term → zxid ≡ s.state.applied → Turns (nat_lt term term') zxid p.seating p.watches u vs ready lost → heard ≡ heard_if led now s.state.sessions p.heard
-      → IsReaction now e lead p (record { records = out.records; mail = out.mail; ready = ready; lost = lost }) behind_it
-  reacted st is_led is_store is_term is_term' is_zxid turns is_heard =
+      → term ≡ p.member.held.term → term' ≡ m.held.term → zxid ≡ s.state.applied → Turns (nat_lt term term') zxid p.seating p.watches u vs ready lost
+      → IsReaction e lead p (record { records = out.records; mail = out.mail; ready = ready; lost = lost }) behind_it
+  reacted st is_led is_store is_term is_term' is_zxid turns =
       let state : s.state ≡ p.store.state = ap (λ z. z.state) is_store in record {
         records = st.records;
         mail = st.mail;
@@ -215,7 +208,6 @@ module _ (p : Parts) (now : ℕ) (e : RaftEvent Snapshot) (may_rise : Bool) (lea
         turns = subst (λ b. Turns b p.store.state.applied p.seating p.watches u vs ready lost) (λ i. nat_lt (is_term i) ((is_term' ∙ ap (λ k. k.term) st.held) i))
             (subst (λ z. Turns (nat_lt term term') z p.seating p.watches u vs ready lost) (is_zxid ∙ ap (λ z. z.applied) state) turns);
         store = is_store ∙ ap (λ b. with_noops b lead p.store) is_led;
-        heard = is_heard ∙ (λ i. heard_if (is_led i) now (state i).sessions p.heard);
         spoken = refl;
         boot = refl;
         events = refl;
@@ -223,18 +215,33 @@ module _ (p : Parts) (now : ℕ) (e : RaftEvent Snapshot) (may_rise : Bool) (lea
 
   pub reacted_holds : (x : Parts) → p ≡ x → Holds p → IsForeseen x.member e may_rise lead → x.events < 2 ^ 62 → p.member.vars.commit ≤ last_index p.member.held.log
       → RaftSteps p.member (reaction p.member e) out m → led ≡ becomes_leader p.member e → s ≡ with_noops led lead p.store
-      → term ≡ p.member.held.term → term' ≡ m.held.term → zxid ≡ s.state.applied → Turns (nat_lt term term') zxid p.seating p.watches u vs ready lost → heard ≡ heard_if led now s.state.sessions p.heard
+      → term ≡ p.member.held.term → term' ≡ m.held.term → zxid ≡ s.state.applied → Turns (nat_lt term term') zxid p.seating p.watches u vs ready lost
       → Holds behind_it
-  reacted_holds x is h f few last st is_led is_store is_term is_term' is_zxid turns is_heard =
-      reaction_holds now e may_rise lead p behind_it _ h (subst (λ (z : Parts). IsForeseen z.member e may_rise lead) (sym is) f)
-      (reacted st is_led is_store is_term is_term' is_zxid turns is_heard) (subst (λ (z : Parts). z.events < 2 ^ 62) (sym is) few) last
+  reacted_holds x is h f few last st is_led is_store is_term is_term' is_zxid turns =
+      reaction_holds e may_rise lead p behind_it _ h (subst (λ (z : Parts). IsForeseen z.member e may_rise lead) (sym is) f)
+      (reacted st is_led is_store is_term is_term' is_zxid turns) (subst (λ (z : Parts). z.events < 2 ^ 62) (sym is) few) last
 
-pub steps_given : (now : ℕ) (e : RaftEvent Snapshot) (b : Bool) (lead : Option ℕ) (p x y : Parts) (r : Reaction) (g : Outcome) → p ≡ x → Holds p → IsForeseen p.member e b lead → IsReaction now e lead x r y → g ≡ given_by r (standing_of (node_of y))
-    → (v : NodeEventKind (Mail Snapshot)) → named (node_of x) (reaction x.member e) v ≡ [] → ((room : Option ℕ) → cut_of room (node_of x) v ≡ None)
+-- the sessions that are heard where none is named
+module _ (now : ℕ) (x : Parts) (o : raft.Outcome Snapshot) (v : NodeEventKind (Mail Snapshot)) (unnamed : named (node_of x) o v ≡ []) where
+  none_named : hear_all now x.store.state x.heard (named (node_of x) o v) ≡ x.heard
+  unfolding hear_all
+  none_named = ap (hear_all now x.store.state x.heard) unnamed
+
+  unnamed_heard : heard_if (became_leader (node_of x) o) now x.store.state.sessions x.heard ≡ heard_after (node_of x) now v o None x.store.state
+  unnamed_heard = ap (λ m. if became_leader (node_of x) o then all_heard now x.store.state.sessions else m) (sym none_named)
+
+pub steps_given : (now : ℕ) (e : RaftEvent Snapshot) (b : Bool) (lead : Option ℕ) (p x y : Parts) (r : Reaction) (g : Outcome) → p ≡ x → Holds p → IsForeseen x.member e b lead → IsReaction e lead x r y → g ≡ given_by r (standing_of (node_of y))
+    → (v : NodeEventKind (Mail Snapshot)) → y.heard ≡ heard_after (node_of x) now v (reaction x.member e) None x.store.state → ((room : Option ℕ) → cut_of room (node_of x) v ≡ None)
     → (ch : Choices) × Steps (raft_step ch (node_of x) now v (reaction x.member e)) x y g
-steps_given now e b lead p x y r g is h f d given v unnamed uncut =
-    let z = by_choices now e b lead x y r (subst Holds is h) (subst (λ (w : Parts). IsForeseen w.member e b lead) is f) d v unnamed uncut in
+steps_given now e b lead p x y r g is h f d given v heard uncut =
+    let z = by_choices e b lead x y r (subst Holds is h) f d now v heard uncut in
     (z.0, subst (Steps (raft_step z.0 (node_of x) now v (reaction x.member e)) x y) (sym given) z.1)
+
+pub timeout_given : (now : ℕ) (b : Bool) (lead : Option ℕ) (p x y : Parts) (r : Reaction) (g : Outcome) → p ≡ x → Holds p → IsForeseen p.member asked.Timeout b lead → IsReaction asked.Timeout lead x r y
+    → y.heard ≡ heard_if (becomes_leader x.member asked.Timeout) now x.store.state.sessions x.heard → g ≡ given_by r (standing_of (node_of y))
+    → (ch : Choices) × Steps (raft_step ch (node_of x) now kind.Timeout (reaction x.member asked.Timeout)) x y g
+timeout_given now b lead p x y r g is h f d heard given =
+    steps_given now asked.Timeout b lead p x y r g is h (subst (λ (z : Parts). IsForeseen z.member asked.Timeout b lead) is f) d given kind.Timeout (heard ∙ unnamed_heard now x (reaction x.member asked.Timeout) kind.Timeout refl) (λ room. refl)
 
 -- ---- messages that name no sessions
 
@@ -265,7 +272,8 @@ usual (mail.Install term from index index_term image) h = h
 usual (mail.InstallRep term from index) h = h
 usual (mail.Forward term from body) h = h
 
-pub mail_given : (now : ℕ) (m : Mail Snapshot) (b : Bool) (lead : Option ℕ) (p x y : Parts) (r : Reaction) (g : Outcome) → p ≡ x → Holds p → IsForeseen p.member (asked.Deliver m) b lead → IsReaction now (asked.Deliver m) lead x r y → g ≡ given_by r (standing_of (node_of y)) → NamesNone m
+pub mail_given : (now : ℕ) (m : Mail Snapshot) (p x y : Parts) (r : Reaction) (g : Outcome) → p ≡ x → Holds p → IsDelivered now m x r y → g ≡ given_by r (standing_of (node_of y)) → NamesNone m
     → (ch : Choices) × Steps (raft_step ch (node_of x) now (kind.Deliver m) (reaction x.member (asked.Deliver m))) x y g
-mail_given now m b lead p x y r g is h f d given none =
-    steps_given now (asked.Deliver m) b lead p x y r g is h f d given (kind.Deliver m) (unnamed (node_of x) (reaction x.member (asked.Deliver m)) m none) (uncut (node_of x) m (usual m none))
+mail_given now m p x y r g is h d given none =
+    let o : raft.Outcome Snapshot = reaction x.member (asked.Deliver m) in
+    steps_given now (asked.Deliver m) d.may_rise d.lead p x y r g is h d.foreseen d.reaction given (kind.Deliver m) (d.heard ∙ unnamed_heard now x o (kind.Deliver m) (unnamed (node_of x) o m none)) (uncut (node_of x) m (usual m none))

@@ -38,3 +38,7 @@ pub mod Ending
 pub mod Greeting
 pub mod Forgetting
 pub mod Written
+pub mod Spoken
+pub mod Naming
+pub mod Delivering
+pub mod Keeping

@@ -4,6 +4,7 @@ use Rattle.std.specs.Ordering.{nat_cmp}
 use Rattle.std.specs.FinMap.{FinMap}
 use Rattle.kp_entry.specs.Held.{replay}
 use Rattle.kp_raft.specs.declared.event.RaftEvent.{RaftEvent}
+use Rattle.kp_raft.specs.declared.event.RaftEvent.TheVariants as asked
 use Rattle.kp_raft.specs.declared.mail.Mail.{Mail}
 use Rattle.kp_raft.specs.Parts as raft
 use Rattle.kp_raft.specs.Members.{running_of}
@@ -25,7 +26,7 @@ use Rattle.kp_node.specs.Parts.{Parts}
 use Rattle.kp_node.specs.Steps.{images}
 use Rattle.kp_node.specs.Walking.{IsTurned}
 use Rattle.kp_node.specs.Rising.{IsSeatRisen}
-use Rattle.kp_node.specs.Foreseen.{reaction, becomes_leader, rises, with_noops}
+use Rattle.kp_node.specs.Foreseen.{IsForeseen, reaction, becomes_leader, rises, with_noops}
 
 -- the step of an event that Raft takes, where it did this
 abbrev pub raft_step : Choices → Node → ℕ → NodeEventKind (Mail Snapshot) → raft.Outcome Snapshot → Stepped Snapshot
@@ -40,7 +41,8 @@ Turns false zxid t ws u vs ready lost = (u ≡ t) × ((vs ≡ ws) × ((ready ≡
 abbrev pub heard_if : Bool → ℕ → Sessions → FinMap nat_cmp Heard → FinMap nat_cmp Heard
 heard_if b now sessions heard = if b then all_heard now sessions else heard
 
-pub record IsReaction (now : ℕ) (e : RaftEvent Snapshot) (lead : Option ℕ) (x : Parts) (r : Reaction) (y : Parts) : Type 0 where
+-- all but when each session was heard
+pub record IsReaction (e : RaftEvent Snapshot) (lead : Option ℕ) (x : Parts) (r : Reaction) (y : Parts) : Type 0 where
   pub records : r.records ≡ (reaction x.member e).records
   pub mail : r.mail ≡ (reaction x.member e).mail
   pub me : y.member.node ≡ x.member.node
@@ -49,10 +51,17 @@ pub record IsReaction (now : ℕ) (e : RaftEvent Snapshot) (lead : Option ℕ) (
   pub running : running_of y.member ≡ (reaction x.member e).running
   pub turns : Turns (rises x.member e) x.store.state.applied x.seating x.watches y.seating y.watches r.ready r.lost
   pub store : y.store ≡ with_noops (becomes_leader x.member e) lead x.store
-  pub heard : y.heard ≡ heard_if (becomes_leader x.member e) now x.store.state.sessions x.heard
   pub spoken : y.spoken ≡ x.spoken
   pub boot : y.boot ≡ x.boot
   pub events : y.events ≡ x.events + 1
+
+-- Raft took a message, as it was foreseen, and what follows of it was done
+pub record IsDelivered (now : ℕ) (m : Mail Snapshot) (x : Parts) (r : Reaction) (y : Parts) : Type 0 where
+  pub may_rise : Bool
+  pub lead : Option ℕ
+  pub foreseen : IsForeseen x.member (asked.Deliver m) may_rise lead
+  pub reaction : IsReaction (asked.Deliver m) lead x r y
+  pub heard : y.heard ≡ heard_if (becomes_leader x.member (asked.Deliver m)) now x.store.state.sessions x.heard
 
 -- what is given of it
 abbrev pub given_by : Reaction → Standing → Outcome

@@ -14,6 +14,7 @@ use crate::appends::append;
 use crate::filling::fill;
 use crate::node::Node;
 use crate::outcome::Outcome;
+use crate::spoken::Spoken;
 use crate::walking::Turned;
 use kp_entry::Records;
 use kp_event::Said;
@@ -109,12 +110,12 @@ fn gather(
     alloc: Global,
     out: RaftOut<Image>,
     turned: Turned,
-    spoken: &mut Vec<u64>,
+    spoken: &mut Spoken,
     cut: Option<u32>,
 ) -> Taken
     requires { length out.mail ≤ 1 }
-    ensures taken { result ≡ record { records = out.records; mail = map (filled spoken.old.items) out.mail; ready = turned.ready; lost = turned.lost; cut = cut } }
-    ensures spoken { spoken.new.items ≡ (if answers out.mail then [] else spoken.old.items) }
+    ensures taken { result ≡ record { records = out.records; mail = map (filled spoken.old) out.mail; ready = turned.ready; lost = turned.lost; cut = cut } }
+    ensures spoken { spoken.new ≡ (if answers out.mail then [] else spoken.old) }
 {
     let RaftOut {
         image,

@@ -18,6 +18,7 @@ use crate::installs::{Sending, install};
 use crate::leaving::leave_if;
 use crate::node::Node;
 use crate::outcome::Outcome;
+use crate::spoken::Spoken;
 use crate::walking::Turned;
 use kp_entry::Records;
 use kp_event::Said;
@@ -148,10 +149,10 @@ fn may_leave(raft: &Raft<Image>, sending: &Sending) -> bool
 }
 
 // What Raft gave, with the sessions that were heard in its answer, and what came of the connections.
-fn gather(alloc: Global, out: RaftOut<Image>, turned: Turned, spoken: &mut Vec<u64>) -> Moved
+fn gather(alloc: Global, out: RaftOut<Image>, turned: Turned, spoken: &mut Spoken) -> Moved
     requires { length out.mail ≤ 1 }
-    ensures moved { result ≡ record { records = out.records; mail = map (filled spoken.old.items) out.mail; image = out.image; ready = turned.ready; lost = turned.lost } }
-    ensures spoken { spoken.new.items ≡ (if answers out.mail then [] else spoken.old.items) }
+    ensures moved { result ≡ record { records = out.records; mail = map (filled spoken.old) out.mail; image = out.image; ready = turned.ready; lost = turned.lost } }
+    ensures spoken { spoken.new ≡ (if answers out.mail then [] else spoken.old) }
 {
     let RaftOut {
         image,

@@ -274,7 +274,7 @@ fn push_entry(
 }
 
 // The entry of this index.
-fn entry_of(alloc: Global, raft: &Raft<Image>, index: u64) -> Result<Entry, NoMemory>
+pub(crate) fn entry_of(alloc: Global, raft: &Raft<Image>, index: u64) -> Result<Entry, NoMemory>
     ensures { IfOk result (λ e. Some e ≡ entry_at raft.now.held.log index) }
 {
     match raft.bytes_at(index) {

@@ -8,6 +8,7 @@
 #![tactic(auto)]
 
 mod ahead;
+mod answer_events;
 mod answering;
 mod append_events;
 mod appends;
@@ -16,9 +17,11 @@ mod coming;
 mod concerned;
 mod connect;
 mod deadlines;
+mod delivering;
 mod ending;
 mod entry;
 mod expiring;
+mod facts;
 mod filling;
 mod firing;
 mod foreseen;
@@ -31,6 +34,7 @@ mod informing;
 mod install_events;
 mod installs;
 mod joining;
+mod keeping;
 mod laws;
 mod leaving;
 mod meaning;
@@ -44,6 +48,7 @@ mod rising;
 mod said;
 mod serving;
 mod settling;
+mod spoken;
 mod start;
 mod taking;
 mod telling;

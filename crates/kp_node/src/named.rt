@@ -1,14 +1,76 @@
 //! The sessions that a follower heard are heard at the leader.
 
-ghost use Rattle.std.specs.Prelude.{◌≡◌, ◌++◌, ◌∷◌, [], Some, IfOk, OnOk, OnErr};
+ghost use Rattle.std.specs.Prelude.{◌≡◌, ◌++◌, ◌∷◌, [], cond, Some, IfOk, OnOk, OnErr};
 ghost use Rattle.std.specs.FinMap as map;
+ghost use Rattle.kp_entry.specs.Log.{last_index};
+ghost use Rattle.kp_raft.specs.Numbers.{MAX};
+ghost use Rattle.kp_raft.specs.Steps.{passes as passes_so};
 ghost use Rattle.kp_step.specs.Committing.{hear as heard_with, hear_all as heard_with_all};
 ghost use Rattle.kp_step.specs.Node.{heard_at};
 ghost use Rattle.kp_node.specs.Named.{missing as missing_in, forgotten, IsAdmitted, AreKnown, IsKnown, TakesIn};
+ghost use Rattle.kp_node.specs.Naming.{mail_of, bare as bare_of, named_by};
 
+use crate::proposing::{is_peer, leads_in};
 use kp_expiry::Expiry;
-use kp_model::{NoMemory, View};
+use kp_model::limits::LAST_NUMBER;
+use kp_model::{Items, NoMemory, View};
+use kp_raft::{Mail, Raft};
+use kp_snapshot::Image;
 use std::alloc::Global;
+
+/// What a follower answers to an append.
+#[derive(Drop)]
+pub(crate) struct Answer {
+    /// The follower's term.
+    pub(crate) term: u64,
+    /// The follower.
+    pub(crate) from: u8,
+    /// Whether its log is the leader's up to the last index.
+    pub(crate) ok: bool,
+    pub(crate) last: u64,
+    /// The sessions that it heard.
+    pub(crate) heard: Items<u64>,
+}
+
+/// The message of an answer, without the sessions that it names. Takes no memory.
+pub(crate) fn bare(alloc: Global, answer: &Answer) -> Mail<Image>
+    ensures { result ≡ bare_of answer.now }
+{
+    Mail::AppendRep {
+        term: answer.term,
+        from: answer.from,
+        ok: answer.ok,
+        last: answer.last,
+        heard: Items::new(alloc),
+    }
+}
+
+/// The sessions of an answer that are heard by it: all where this member leads in its term, and else none.
+pub(crate) fn named<'a>(raft: &Raft<Image>, answer: &'a Answer) -> &'a [u64]
+    ensures { result.now ≡ named_by raft.now answer.now }
+{
+    if passes(raft, answer) && leads_in(raft, answer.term) {
+        answer.heard.as_slice()
+    } else {
+        &[]
+    }
+}
+
+// Whether it is another member's, with numbers of a run.
+fn passes(raft: &Raft<Image>, answer: &Answer) -> bool
+    ensures { result ≡ passes_so raft.now.members raft.now.node (last_index raft.now.held.log) (mail_of answer.now) }
+{
+    is_peer(raft, answer.from)
+        && answer.term <= LAST_NUMBER
+        && answer.last <= reach(raft, answer.ok)
+}
+
+// The last index up to which a log may be the leader's, or else may end.
+fn reach(raft: &Raft<Image>, ok: bool) -> u64
+    ensures { result ≡ cond ok (last_index raft.now.held.log) MAX }
+{
+    if ok { raft.last() } else { LAST_NUMBER }
+}
 
 /// Those of the sessions that the state has are known from here on. Answers those that were not known before. After an
 /// error nothing has changed.

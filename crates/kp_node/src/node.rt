@@ -8,6 +8,7 @@ ghost use Rattle.kp_node.specs.Parts.{node_of};
 ghost use Rattle.kp_node.specs.Steps.{quietly, given_behind};
 
 use crate::outcome::Outcome;
+use crate::spoken::Spoken;
 use kp_entry::Records;
 use kp_event::{Said, Standing};
 use kp_expiry::Expiry;
@@ -33,7 +34,7 @@ pub struct Node {
     pub(crate) watches: Watches,
     pub(crate) expiry: Expiry,
     // the sessions that were heard since the leader was told of some
-    pub(crate) spoken: Vec<u64>,
+    pub(crate) spoken: Spoken,
     // how often the node was started
     pub(crate) boot: u64,
     // how many events it has taken
@@ -48,9 +49,9 @@ impl Model for Node {
 
     ghost coded = { parts_code };
 
-    ghost view = { λ n. parts n.raft n.storage n.seats n.watches n.expiry n.spoken.items n.boot n.events };
+    ghost view = { λ n. parts n.raft n.storage n.seats n.watches n.expiry n.spoken n.boot n.events };
 
-    ghost invariant = { λ n. Holds (parts n.raft n.storage n.seats n.watches n.expiry n.spoken.items n.boot n.events) };
+    ghost invariant = { λ n. Holds (parts n.raft n.storage n.seats n.watches n.expiry n.spoken n.boot n.events) };
 }
 
 impl Node {

@@ -136,14 +136,14 @@ pub(crate) fn leads(raft: &Raft<Image>) -> bool
 }
 
 // Whether the member leads in this term.
-fn leads_in(raft: &Raft<Image>, term: u64) -> bool
+pub(crate) fn leads_in(raft: &Raft<Image>, term: u64) -> bool
     ensures { result ≡ (is_leader raft.now.vars.role && term == raft.now.held.term) }
 {
     leads(raft) && term == raft.term()
 }
 
 // Whether this is the number of another member.
-fn is_peer(raft: &Raft<Image>, node: u8) -> bool
+pub(crate) fn is_peer(raft: &Raft<Image>, node: u8) -> bool
     ensures { result ≡ is_other raft.now.members raft.now.node node }
 {
     raft.match_of(node).is_some()

@@ -7,8 +7,8 @@ ghost use Rattle.kp_step.specs.Choices.{Choices};
 ghost use Rattle.kp_event.specs.declared.event.NodeEventKind.TheVariants as kind;
 ghost use Rattle.kp_raft.specs.declared.event.RaftEvent.TheVariants as asked;
 ghost use Rattle.kp_node.specs.Steps.{Steps};
-ghost use Rattle.kp_node.specs.Foreseen.{IsForeseen, NamesNone, reaction};
-ghost use Rattle.kp_node.specs.Reactions.{IsReaction, given_by, raft_step};
+ghost use Rattle.kp_node.specs.Foreseen.{IsForeseen, IsUsual, NamesNone, becomes_leader, reaction};
+ghost use Rattle.kp_node.specs.Reactions.{IsDelivered, IsReaction, given_by, heard_if, raft_step};
 
 use crate::ahead::{hear_if, look_ahead, rise_if};
 use crate::foreseen::{foresee_mail, foresee_timeout, step_raft};
@@ -49,6 +49,20 @@ impl Node {
         ensures ok { IfOk result (λ o. (ch : Choices) × Steps (raft_step ch (node_of self.old) now (kind.Deliver mail) (reaction self.old.member (asked.Deliver mail))) self.old self.new o) }
         ensures err { OnErr result (self.new ≡ self.old) }
     {
+        // To lend a field opens what the type says of the node.
+        let _raft = &self.raft;
+        let reaction = self.take_mail(now, mail)?;
+        Ok(self.give(reaction))
+    }
+
+    // Raft takes a message by which at most a no-op is appended, and what follows of it is done. After an error nothing
+    // has changed.
+    pub(crate) fn take_mail(&mut self, now: u64, mail: Mail<Image>) -> Result<Reaction, NoMemory>
+        requires events { self.old.events < 2 ^ 62 }
+        requires usual { IsUsual mail }
+        ensures ok { IfOk result (λ r. IsDelivered now mail self.old r self.new) }
+        ensures err { OnErr result (self.new ≡ self.old) }
+    {
         let forecast = match foresee_mail(&self.raft, &mail) {
             Ok(forecast) => forecast,
             Err(none) => {
@@ -56,13 +70,12 @@ impl Node {
                 return Err(none);
             }
         };
-        let reaction = self.react(
+        self.react(
             now,
             RaftEvent::Deliver(mail),
             forecast.may_rise,
             forecast.lead,
-        )?;
-        Ok(self.give(reaction))
+        )
     }
 
     // Raft takes an event, and what follows of it is done. `may_rise` says whether the term may rise by it, and `lead`
@@ -76,7 +89,8 @@ impl Node {
     ) -> Result<Reaction, NoMemory>
         requires events { self.old.events < 2 ^ 62 }
         requires foreseen { IsForeseen self.old.member event may_rise lead }
-        ensures ok { IfOk result (λ r. IsReaction now event lead self.old r self.new) }
+        ensures ok { IfOk result (λ r. IsReaction event lead self.old r self.new) }
+        ensures heard { IfOk result (λ r. self.new.heard ≡ heard_if (becomes_leader self.old.member event) now self.old.store.state.sessions self.old.heard) }
         ensures err { OnErr result (self.new ≡ self.old) }
     {
         let ahead = match look_ahead(
@@ -124,7 +138,7 @@ impl Node {
     }
 
     // What is given of it.
-    fn give(&self, reaction: Reaction) -> Outcome
+    pub(crate) fn give(&self, reaction: Reaction) -> Outcome
         ensures { result ≡ given_by reaction (standing_of (node_of self.now)) }
     {
         Outcome {

@@ -8,6 +8,7 @@ ghost use Rattle.kp_node.specs.Starting.{state_in, base_in, held_in, Starts};
 
 use crate::deadlines::all_heard;
 use crate::node::Node;
+use crate::spoken::Spoken;
 use kp_expiry::Expiry;
 use kp_model::{Entry, Items, NoMemory};
 use kp_raft::Raft;
@@ -64,7 +65,7 @@ impl Node {
                 seats: Seats::new(alloc),
                 watches: Watches::new(alloc),
                 expiry,
-                spoken: Vec::new(alloc),
+                spoken: Spoken::new(alloc),
                 boot: stored.boot,
                 events: 0,
             }),

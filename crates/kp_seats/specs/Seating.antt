@@ -1,5 +1,5 @@
 -- The connections of a node: what each holds, and the session that it serves.
-use Rattle.std.specs.Prelude.{◌≡◌, ◌+◌, ◌<◌, ℕ, Bool, true, false, nat_lt, List, [], ◌∷◌, Option, Some, None, IsSome, refl}
+use Rattle.std.specs.Prelude.{◌≡◌, ◌+◌, ◌<◌, ℕ, Bool, true, false, ◌&&◌, nat_lt, List, [], ◌∷◌, Option, Some, None, IsSome, refl}
 use Rattle.std.specs.List.{filter}
 use Rattle.std.specs.Ordering.{nat_cmp}
 use Rattle.std.specs.Coded.{Coded, code_by, coded×, coded_ℕ, coded_bool}
@@ -42,6 +42,10 @@ module _ {S : Type 0} where
   -- with room for one connection more that serves a session
   abbrev pub roomy : Seating S → Seating S
   roomy t = record { next = t.next; seats = t.seats; sessions = t.sessions; has_room = true }
+
+  -- with such room only where this says so
+  abbrev pub roomy_if : Seating S → Bool → Seating S
+  roomy_if t kept = record { next = t.next; seats = t.seats; sessions = t.sessions; has_room = t.has_room && kept }
 
   -- the connection serves the session, and no other one does; the room is used up
   abbrev pub joined : Seating S → ℕ → ℕ → Seating S

@@ -4,7 +4,7 @@ ghost use Rattle.std.specs.Option.{option_copied, option_copied_mut};
 ghost use Rattle.std.specs.FinMap as map;
 ghost use Rattle.std.specs.Borrow.{sem};
 ghost use Rattle.kp_seats.specs.Serving.{IsServer};
-ghost use Rattle.kp_seats.specs.Seating.{nobody, accepted, removed, roomy, joined, left, ended, above, IsNext, Leads};
+ghost use Rattle.kp_seats.specs.Seating.{nobody, accepted, removed, roomy, roomy_if, joined, left, ended, above, IsNext, Leads};
 ghost use Rattle.kp_seats.specs.Lending.{LendsSeat};
 
 use crate::NoMemory;
@@ -150,6 +150,21 @@ impl<S> Seats<S> {
         ensures err { OnErr result (self.new ≡ self.old) }
     {
         self.sessions.make_room()
+    }
+
+    /// Whether there is room for the next `join`.
+    pub fn has_room(&self) -> bool
+        ensures { result ≡ self.now.has_room }
+    {
+        self.sessions.has_room()
+    }
+
+    /// Keeps the room only where this says so: with what `has_room` was before, it takes `make_room` back. It takes no
+    /// memory.
+    pub fn keep_room(&mut self, kept: bool)
+        ensures { self.new ≡ roomy_if self.old kept }
+    {
+        self.sessions.keep_room(kept);
     }
 
     /// The connection, which is there, serves this session from now on, and no other one. No other connection serves

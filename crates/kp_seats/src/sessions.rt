@@ -1,5 +1,5 @@
 //! Which connection serves which session.
-ghost use Rattle.std.specs.Prelude.{◌≡◌, true, false, OnOk, OnErr};
+ghost use Rattle.std.specs.Prelude.{◌≡◌, ◌&&◌, true, false, OnOk, OnErr};
 ghost use Rattle.std.specs.FinMap as map;
 ghost use Rattle.kp_seats.specs.Serving.{IsServer, without};
 
@@ -70,6 +70,21 @@ impl Sessions {
         make_room(&mut self.conns)?;
         self.has_room = true;
         Ok(())
+    }
+
+    /// Whether there is room for the next `join`.
+    pub fn has_room(&self) -> bool
+        ensures { result ≡ self.now.has_room }
+    {
+        self.has_room
+    }
+
+    /// Keeps the room only where this says so: with what `has_room` was before, it takes `make_room` back. It takes no
+    /// memory.
+    pub fn keep_room(&mut self, kept: bool)
+        ensures { self.new ≡ record { sessions = self.old.sessions; has_room = self.old.has_room && kept } }
+    {
+        self.has_room = self.has_room && kept;
     }
 
     /// The connection serves this session from now on, and no other one. No other connection serves it: the one that

@@ -1,0 +1,12 @@
+use Rattle.std.proofs.Common.{length, map}
+use Rattle.std.specs.Ordering.{nat_cmp}
+use Rattle.kp_model.specs.State.{path_cmp}
+use Rattle.kp_facts.specs.Groups.{GathersWith}
+use Rattle.kp_facts.specs.Watched.{conn_of, path_of}
+use Rattle.kp_facts.proofs.watching.paths_by_conn.Given as goal
+
+abbrev pub invariant-walk : goal.invariant-walk
+invariant-walk l = GathersWith nat_cmp path_cmp conn_of path_of l.watches (map (λ w. w.now) l.list.items) l.groups.entries
+
+abbrev pub decreases-walk : goal.decreases-walk
+decreases-walk l = length l.list.items

@@ -1,0 +1,4 @@
+pub mod Ahead
+pub mod Ready
+pub mod Answers
+pub mod Finding

@@ -60,3 +60,4 @@ pub mod Noted
 pub mod Naming
 pub mod Delivered
 pub mod Kept
+pub mod Phased

@@ -13,6 +13,7 @@ mod append_events;
 mod appends;
 mod applying;
 mod changing;
+mod client;
 mod client_events;
 mod coming;
 mod commits;

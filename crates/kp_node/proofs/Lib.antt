@@ -61,3 +61,6 @@ pub mod Naming
 pub mod Delivered
 pub mod Kept
 pub mod Phased
+pub mod Firsts
+pub mod EarlySeats
+pub mod FirstFed

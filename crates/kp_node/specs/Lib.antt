@@ -47,3 +47,6 @@ pub mod Spoken
 pub mod Naming
 pub mod Delivering
 pub mod Keeping
+pub mod FirstBytes
+pub mod Early
+pub mod ClientFirst

@@ -89,8 +89,8 @@ fn propose(
     Ok(records)
 }
 
-// Bodies go to Raft, and others become mail. Without memory nothing has changed; it takes none where there are none.
-fn hand_over(
+/// Bodies go to Raft, and others become mail. Without memory nothing has changed; it takes none where there are none.
+pub(crate) fn hand_over(
     alloc: Global,
     ground: Ground,
     raft: &mut Raft<Image>,

@@ -107,7 +107,7 @@ impl Node {
     }
 
     // The image that the log up to the last applied entry becomes; None where it is one already.
-    fn base_image(&self) -> Result<Option<Image>, NoMemory>
+    pub(crate) fn base_image(&self) -> Result<Option<Image>, NoMemory>
         ensures { IfOk result (λ i. i ≡ base_image (node_of self.now)) }
     {
         let (base, _) = self.raft.base();
@@ -118,7 +118,7 @@ impl Node {
     }
 
     // The last applied entry becomes the base.
-    fn compact(&mut self) -> Result<RaftOut<Image>, NoMemory>
+    pub(crate) fn compact(&mut self) -> Result<RaftOut<Image>, NoMemory>
         requires { self.old.events < 2 ^ 62 }
         ensures ok { IfOk result (λ out. Compacts self.old out self.new) }
         ensures err { OnErr result (self.new ≡ self.old) }

@@ -45,6 +45,17 @@ pub mod Ends
 pub mod Greets
 pub mod Forgotten
 pub mod Writes
+pub mod Rows
+pub mod Tabled
+pub mod Seated
+pub mod Placed
+pub mod Staying
+pub mod Replied
+pub mod Guested
+pub mod Unasked
+pub mod Applies
+pub mod Asides
+pub mod Committed
 pub mod Noted
 pub mod Naming
 pub mod Delivered

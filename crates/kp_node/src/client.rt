@@ -17,12 +17,7 @@ use kp_step::Seat;
 
 impl Node {
     // Bytes come of a client, by the connection of this number. After an error nothing has changed.
-    pub(crate) fn client(
-        &mut self,
-        now: u64,
-        conn: u64,
-        bytes: &[u8],
-    ) -> Result<Outcome, NoMemory>
+    pub(crate) fn client(&mut self, now: u64, conn: u64, bytes: &[u8]) -> Result<Outcome, NoMemory>
         requires { self.old.events < 2 ^ 62 }
         ensures ok { IfOk result (λ o. (ch : Choices) × Steps (client_step words ch (node_of self.old) now conn bytes.now) self.old self.new o) }
         ensures err { OnErr result (self.new ≡ self.old) }

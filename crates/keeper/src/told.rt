@@ -23,6 +23,16 @@ fn sentence(status: &Status) -> &'static str {
     }
 }
 
+/// The end of the name of a slot's file.
+fn file_of(slot: u64) -> &'static str {
+    match slot {
+        0 => ".j0",
+        1 => ".j1",
+        2 => ".i0",
+        _ => ".i1",
+    }
+}
+
 /// Tells a status other than Done.
 pub fn tell(rt: &HostRuntime, status: &Status) {
     let _ = match status {
@@ -33,7 +43,10 @@ pub fn tell(rt: &HostRuntime, status: &Status) {
             )
         }
         Status::Damaged { slot, at } => {
-            eprintln!(rt; "Damaged: slot {slot} of the home leaves its format at byte {at}")
+            let file = file_of(*slot);
+            eprintln!(rt;
+                "Damaged: slot {slot} of the home, the file {file}, leaves its format at byte {at}"
+            )
         }
         Status::Full { slot, len } => {
             eprintln!(rt; "Full: slot {slot} of the home would have {len} bytes, which is too many")

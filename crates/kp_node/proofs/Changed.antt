@@ -234,7 +234,7 @@ module _ (seats : Seats) (k : ℕ) where
     at true t h = h ∙ ap (λ b. cond b (w ∷ swept seats ws) (swept seats ws)) (sym (ap (λ j. keeps_watches (map.get seats j)) (same_number w.conn k t) ∙ e))
     at false t h = ap (λ vs. cond (keeps_watches (map.get seats w.conn)) (w ∷ vs) vs) h
 
-  turn_sweeps : (b : Bool) (ws : List Watch) → keeps_watches (map.get seats k) ≡ b → swept seats (turn_watches b k ws) ≡ swept seats ws
+  pub turn_sweeps : (b : Bool) (ws : List Watch) → keeps_watches (map.get seats k) ≡ b → swept seats (turn_watches b k ws) ≡ swept seats ws
   turn_sweeps true ws e = refl
   turn_sweeps false ws e = without_lost ws e
 

@@ -77,7 +77,7 @@ abbrev head_or : ℕ × Option Event → List (ℕ × Option Event) → ℕ × O
 head_or d [] = d
 head_or d (x ∷ xs) = x
 
-unheard : (es : List Event) (fs : List Fired) (pairs : List (ℕ × Event)) → shown es fs ≡ somes pairs → (q : ℕ) → list_any (nat_eq q) (map (λ (f : Fired). f.conn) fs) ≡ false → packets_for q pairs ≡ []
+pub unheard : (es : List Event) (fs : List Fired) (pairs : List (ℕ × Event)) → shown es fs ≡ somes pairs → (q : ℕ) → list_any (nat_eq q) (map (λ (f : Fired). f.conn) fs) ≡ false → packets_for q pairs ≡ []
 unheard es [] [] e q h = refl
 unheard es [] (p ∷ pairs) e q h = no false refl (ap (λ (xs : List (ℕ × Option Event)). is_some (slice_get xs 0)) e)
 unheard es (f ∷ fs) [] e q h = no false refl (sym (ap (λ (xs : List (ℕ × Option Event)). is_some (slice_get xs 0)) e))
@@ -88,7 +88,7 @@ unheard es (f ∷ fs) (p ∷ pairs) e q h =
     ap (λ b. map (λ (x : ℕ × Event). event_packet x.1) (cond b (p ∷ filter (λ (x : ℕ × Event). nat_eq x.0 q) pairs) (filter (λ (x : ℕ × Event). nat_eq x.0 q) pairs))) other
     ∙ unheard es fs pairs (ap (drop 1) e) q both.1
 
-hears_none : (ch : Choices) (pairs : List (ℕ × Event)) (k : ℕ) → packets_for k pairs ≡ [] → (c : Connection) → (hears ch pairs k c).connection ≡ c
+pub hears_none : (ch : Choices) (pairs : List (ℕ × Event)) (k : ℕ) → packets_for k pairs ≡ [] → (c : Connection) → (hears ch pairs k c).connection ≡ c
 unfolding given_out
 hears_none ch pairs k e c = ap (λ ps. (if is_over c.phase then stays c else stays (given_out (ch.luck k).events ps c)).connection) e ∙ at (is_over c.phase) where
   at : (b : Bool) → (if b then stays c else stays c).connection ≡ c

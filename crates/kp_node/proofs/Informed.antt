@@ -38,7 +38,7 @@ use Rattle.kp_node.proofs.Maps.{no, same}
 
 -- ---- a connection that heard
 
-not_over : (p : Phase) (s : ℕ) → served_by p ≡ Some s → is_over p ≡ false
+pub not_over : (p : Phase) (s : ℕ) → served_by p ≡ Some s → is_over p ≡ false
 not_over phase.Fresh s h = refl
 not_over (phase.Connecting ro) s h = refl
 not_over (phase.Live x e n) s h = refl

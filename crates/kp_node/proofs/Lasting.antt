@@ -165,7 +165,7 @@ module _ (s : State) (k : ℕ) where
   turn_goes (Some a) true n ws c w q h = shut true c c
   turn_goes (Some a) false n ws c w q h = last_goes (is_end w) c (put_answer s.applied w.request a c) a.watches (next n c w q a) (h a)
 
-  settled_goes : (n : Option ℕ) (ws : List Watch) (c d : Connection) (q : List Waiting) → d.phase ≡ c.phase → GoesOn c (settled s k n ws d q).connection
+  pub settled_goes : (n : Option ℕ) (ws : List Watch) (c d : Connection) (q : List Waiting) → d.phase ≡ c.phase → GoesOn c (settled s k n ws d q).connection
   unfolding settled
   settled_goes n ws c d [] e = same_phase c (with_queue [] d) e
   settled_goes n ws c d (w ∷ q) e = then_goes c d _ (same_phase c d e)
@@ -261,7 +261,7 @@ fed_as_goes (phase.Connecting ro) c bytes e = same_phase c _ refl
 fed_as_goes (phase.Live s f n) c bytes e = same_phase c _ refl
 fed_as_goes (phase.Closing lost) c bytes e = same_phase c c refl
 
-fed_goes : (c : Connection) (bytes : List ℕ) → GoesOn c (fed c bytes).0
+pub fed_goes : (c : Connection) (bytes : List ℕ) → GoesOn c (fed c bytes).0
 unfolding fed
 fed_goes c bytes = fed_as_goes c.phase c bytes refl
 

@@ -72,7 +72,7 @@ module _ (me boot zxid : ℕ) where
   assoc false b c = refl
 
   -- the connection of the origin is the newcomer
-  own : (o : Origin) (k : ℕ) → same_origin o (record { node = me; boot = boot; conn = k }) ≡ is_that (conn_of me boot o) k
+  pub own : (o : Origin) (k : ℕ) → same_origin o (record { node = me; boot = boot; conn = k }) ≡ is_that (conn_of me boot o) k
   own o k = assoc (o.node == me) (o.boot == boot) (o.conn == k) ∙ origin_in (o.node == me && o.boot == boot) o.conn k
 
   attach_not : (ch : Choices) (o : Origin) (mine : Origin) (session : ℕ) (r : Reply) (k : ℕ) (c : Connection) → is_epoch r ≡ false → (attached_to ch zxid mine o session r k c).connection ≡ c

@@ -49,7 +49,7 @@ none_new m = filter_none _ _ (λ q. but_not (is_ready (map.get m q)))
 none_lost : (n : ℕ) → n - n ≡ 0
 none_lost n = omega arith
 
-any : Choices
+pub any : Choices
 any = record { room = None; luck = λ q. record { events = None; requests = None; answers = None } }
 
 -- ---- the connections

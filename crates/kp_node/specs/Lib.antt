@@ -39,6 +39,10 @@ pub mod Ending
 pub mod Greeting
 pub mod Forgetting
 pub mod Written
+pub mod Prospects
+pub mod Guests
+pub mod Applied
+pub mod Commits
 pub mod Spoken
 pub mod Naming
 pub mod Delivering

@@ -34,7 +34,7 @@ pub(crate) struct Read {
 
 impl Node {
     // Bytes come of a connection that isn't there, or is over: they are dropped.
-    fn client_gone(&mut self, now: u64, conn: u64, bytes: &[u8]) -> Outcome
+    pub(crate) fn client_gone(&mut self, now: u64, conn: u64, bytes: &[u8]) -> Outcome
         requires events { self.old.events < 2 ^ 62 }
         requires gone { takes_none (map.get self.old.seating.seats conn) ≡ true }
         ensures { (words : Words) (ch : Choices) → Steps (client_step words ch (node_of self.old) now conn bytes.now) self.old self.new result }
@@ -54,7 +54,7 @@ impl Node {
     }
 
     // Bytes come of a live connection, which serves this session. After an error nothing has changed.
-    fn client_live(
+    pub(crate) fn client_live(
         &mut self,
         now: u64,
         conn: u64,

@@ -2,9 +2,8 @@
 //!
 //! What a node does is defined in `kp_step`; here stands the code of it. So far it has the node and its start, and these
 //! events: connections that come, go and take what is ready for them, timeouts, all messages between nodes, a leader's
-//! beat, images of the log, and the end of sessions that were not heard. Of the two others, bytes of a client and an
-//! applied entry, it has the parts: how requests join, are handed in and answered, how connect requests are looked at and
-//! greeted, and what an entry means for the connections that hear of it and for that of its session.
+//! beat, applied entries, images of the log, and the end of sessions that were not heard. Of the other, bytes of a client,
+//! it has the parts: how requests join, are handed in and answered, and how connect requests are looked at.
 #![tactic(auto)]
 
 mod ahead;
@@ -12,10 +11,13 @@ mod answer_events;
 mod answering;
 mod append_events;
 mod appends;
+mod applying;
 mod changing;
+mod client;
 mod client_events;
 mod client_first;
 mod coming;
+mod commits;
 mod concerned;
 mod connect;
 mod deadlines;
@@ -31,6 +33,7 @@ mod first_bytes;
 mod foreseen;
 mod forgetting;
 mod greetings;
+mod guests;
 mod handing;
 mod hearing;
 mod indexing;
@@ -46,6 +49,7 @@ mod named;
 mod node;
 mod outcome;
 mod proposing;
+mod prospects;
 mod raft_events;
 mod refusing;
 mod rising;

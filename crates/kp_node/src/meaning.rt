@@ -154,7 +154,7 @@ pub(crate) fn reply_in(
 }
 
 // Whether an entry came too late.
-fn is_late(reply: &Reply) -> bool
+pub(crate) fn is_late(reply: &Reply) -> bool
     ensures { result ≡ is_stale reply.now }
 {
     matches!(reply, Reply::Stale)

@@ -1,12 +1,10 @@
 -- A connection that isn't live takes bytes in its place among the others.
-use Rattle.std.proofs.Common.{◌≡◌, ℕ, Bool, true, false, cond, List, Option, Some, None, refl, ap, sym, subst, ◌∙◌}
-use Rattle.std.specs.Prelude.{Result, IfOk}
+use Rattle.std.proofs.Common.{◌≡◌, ℕ, false, cond, List, Option, Some, None, refl, ap, sym, subst, ◌∙◌}
 use Rattle.std.specs.Cmp.{nat_eq_equiv}
 use Rattle.std.specs.FinMap as map
 use Rattle.kp_model.specs.Store.{Store}
 use Rattle.kp_raft.specs.Members.{Member}
 use Rattle.kp_seats.specs.Seating.{Seating, holding}
-use Rattle.kp_watch.specs.declared.watch.Watch.{Watch}
 use Rattle.kp_conn.specs.declared.fed.FedEnd.TheVariants as ends
 use Rattle.kp_conn.specs.declared.phase.Phase.{Phase}
 use Rattle.kp_conn.specs.declared.phase.Phase.TheVariants as phase
@@ -16,9 +14,9 @@ use Rattle.kp_step.specs.declared.seat.Seat.{Seat}
 use Rattle.kp_node.specs.declared.first_bytes.First.{First}
 use Rattle.kp_node.specs.declared.first_bytes.First.TheVariants as first
 use Rattle.kp_node.specs.declared.joining.Ground.{Ground}
-use Rattle.kp_node.specs.Clients.{TakesAt, left_over}
+use Rattle.kp_node.specs.Clients.{left_over}
 use Rattle.kp_node.specs.FirstBytes.{IsFirst, is_word}
-use Rattle.kp_node.specs.Early.{IsFirstAt, SeatTakesFirst, FirstAmong, FirstAt}
+use Rattle.kp_node.specs.Early.{IsFirstAt, FirstAmong, FirstAt}
 use Rattle.kp_node.specs.TakingBytes.{seated_at, end_in}
 use Rattle.kp_node.proofs.Greets.{held_still}
 use Rattle.kp_node.proofs.Maps.{no, get-put}

@@ -1,6 +1,6 @@
 -- Bytes of a connection that isn't live make the step of its node.
-use Rattle.std.proofs.Common.{◌≡◌, ℕ, ◌+◌, ◌-◌, ◌≤◌, ◌<◌, ◌^◌, Bool, true, false, cond, List, [], ◌∷◌, ◌++◌, length, Option, Some, None, is_some, refl, ap, sym, subst, ◌∙◌, append-nil, nat_eq, not, take, length-append, arith}
-use Rattle.std.specs.Prelude.{map, unwrap_or, Result, Ok, Err, OnOk, OnErr, if◌then◌else◌}
+use Rattle.std.proofs.Common.{◌≡◌, ℕ, ◌+◌, ◌-◌, ◌≤◌, ◌<◌, ◌^◌, Bool, true, false, cond, List, [], ◌∷◌, ◌++◌, length, Option, Some, None, refl, ap, sym, subst, ◌∙◌, append-nil, nat_eq, not, take, length-append, arith}
+use Rattle.std.specs.Prelude.{map, Result, Ok, Err, OnOk, OnErr, if◌then◌else◌}
 use Rattle.std.specs.Cmp.{nat_eq_equiv}
 use Rattle.std.specs.FinMap as map
 use Rattle.kp_model.specs.Limits.{last_number}
@@ -32,7 +32,7 @@ use Rattle.kp_step.specs.Handing as step
 use Rattle.kp_step.specs.Handing.{Served, served_so, served_as, serves, first_served, ground, desk}
 use Rattle.kp_step.specs.Asking.{Words, Input, idle, asks, reacted, installed, client_input, client_served, propose_if, is_csnp}
 use Rattle.kp_step.specs.Runs.{IsResting}
-use Rattle.kp_step.specs.Step.{Stepped, Turn, turn, together, client_turn, fed_turn, fed_word, hears_client, node_behind, standing_of, swept, keeps_watches, count_lost, newly_ready, filled}
+use Rattle.kp_step.specs.Step.{Stepped, Turn, turn, together, client_turn, fed_turn, hears_client, node_behind, standing_of, swept, keeps_watches, filled}
 use Rattle.kp_step.proofs.Resting.{insert_quiet}
 use Rattle.kp_node.specs.declared.client_events.Read.{Read}
 use Rattle.kp_node.specs.declared.client_first.Start.{Start}
@@ -41,12 +41,10 @@ use Rattle.kp_node.specs.declared.first_bytes.First.{First}
 use Rattle.kp_node.specs.declared.first_bytes.First.TheVariants as firsts
 use Rattle.kp_node.specs.declared.joining.Ground.{Ground}
 use Rattle.kp_node.specs.declared.outcome.Outcome.{Outcome as Given}
-use Rattle.kp_node.specs.declared.serving.Handed.{Handed}
 use Rattle.kp_node.specs.declared.taking.Taken.{Taken}
 use Rattle.kp_node.specs.Changing.{idle_among, ready_among, lost_among}
 use Rattle.kp_node.specs.ClientFirst.{Starts, with_put, with_unput, with_closed, given_image, word_read}
 use Rattle.kp_node.specs.Clients.{client_at, client_step, ground_of, TakesAt, IsFed, given_fed}
-use Rattle.kp_node.specs.Deciding.{kept_watches}
 use Rattle.kp_node.specs.Early.{IsFirstAt, IsWordAt, FirstAt, conn_changed, changed_by}
 use Rattle.kp_node.specs.FirstBytes.{IsFirst, is_word}
 use Rattle.kp_node.specs.Holding.{Holds, AreKept, served_by, served_at}

@@ -17,20 +17,18 @@ use Rattle.kp_conn.specs.declared.first.First.{First}
 use Rattle.kp_conn.specs.declared.first.First.TheVariants as firsts
 use Rattle.kp_conn.specs.declared.phase.Phase.{Phase}
 use Rattle.kp_conn.specs.declared.phase.Phase.TheVariants as phase
-use Rattle.kp_conn.specs.Connection.{Connection, closed, opened, begun_again, is_lost}
+use Rattle.kp_conn.specs.Connection.{Connection, begun_again, is_lost}
 use Rattle.kp_conn.specs.Fed.{fed, fed_as, fed_first, first, with_piece, nothing}
 use Rattle.kp_step.specs.Choices.{Luck}
 use Rattle.kp_step.specs.Handing as step
 use Rattle.kp_step.specs.Handing.{Served, served_so, served_as, serves, handed, is_led, is_refused, refusal, opening, origin, connects, first_served}
 use Rattle.kp_node.specs.declared.joining.Ground.{Ground}
 use Rattle.kp_node.specs.declared.serving.Handed.{Handed}
-use Rattle.kp_node.specs.declared.taking.Taken.{Taken}
-use Rattle.kp_node.specs.Deciding.{kept_watches}
-use Rattle.kp_node.specs.FirstBytes.{Sends, opened_by, Makes, asks_for, reads_first, is_word, word_in, IsFirst, IsConnecting, TakesWaiting}
+use Rattle.kp_node.specs.FirstBytes.{Sends, opened_by, Makes, reads_first, is_word, word_in, IsFirst, IsConnecting, TakesWaiting}
 use Rattle.kp_node.specs.Joining.{IsHanded, IsBehind, ground_in, desk_of}
 use Rattle.kp_node.specs.Proposing.{AtDesk, entries_of}
 use Rattle.kp_node.specs.Serving.{HandsOver}
-use Rattle.kp_node.specs.TakingBytes.{taken, Takes, end_in}
+use Rattle.kp_node.specs.TakingBytes.{taken, Takes}
 use Rattle.kp_node.proofs.Handed.{at_desk_from, at_desk_to}
 use Rattle.kp_node.proofs.HandedOver.{proposes_none}
 use Rattle.kp_node.proofs.Maps.{no}

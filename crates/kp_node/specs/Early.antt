@@ -1,12 +1,11 @@
 -- Connections that aren't live take bytes, in their places among the others.
-use Rattle.std.specs.Prelude.{◌≡◌, ℕ, Bool, false, List, Option, Some, None}
+use Rattle.std.specs.Prelude.{◌≡◌, ℕ, false, List, Option, Some, None}
 use Rattle.std.specs.FinMap as map
 use Rattle.kp_model.specs.Store.{Store}
 use Rattle.kp_raft.specs.Members.{Member}
 use Rattle.kp_seats.specs.Seating.{Seating, holding}
 use Rattle.kp_watch.specs.declared.watch.Watch.{Watch}
 use Rattle.kp_conn.specs.declared.fed.FedEnd.TheVariants as ends
-use Rattle.kp_conn.specs.declared.phase.Phase.{Phase}
 use Rattle.kp_conn.specs.declared.phase.Phase.TheVariants as phase
 use Rattle.kp_conn.specs.Connection.{Connection}
 use Rattle.kp_step.specs.declared.seat.Seat.{Seat}

@@ -1,4 +1,4 @@
-use Rattle.std.proofs.Common.{◌≤◌, refl, sym, ap, subst}
+use Rattle.std.proofs.Common.{◌≤◌, refl, sym, subst}
 use Rattle.std.specs.FinMap as map
 use Rattle.kp_entry.specs.Log.{last_index}
 use Rattle.kp_conn.specs.Connection.{put}

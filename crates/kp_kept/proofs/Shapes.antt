@@ -53,9 +53,9 @@ are_entries_fit h (e ∷ es) le =
     let first : nat_lt (last_index h.log) (2 ^ 62) ≡ true = grind (arith, nat_tests) in
     both_true _ _ first (are_entries_fit (replay_one h (record_.Append e)) es le)
 
-appended_open : (es : List LogEntry) → has_base (appended es) ≡ false
-appended_open [] = refl
-appended_open (e ∷ es) = appended_open es
+pub entries_open : (es : List LogEntry) → has_base (appended es) ≡ false
+entries_open [] = refl
+entries_open (e ∷ es) = entries_open es
 
 pub entries_boot : (b : ℕ) (es : List LogEntry) → boot_after b (appended es) ≡ b
 entries_boot b [] = refl
@@ -68,10 +68,10 @@ appended_ends (e ∷ es) = appended_ends es
 -- ---- plain records
 
 plain_open : (ballot : Option (ℕ × ℕ)) (cut : Option ℕ) (es : List LogEntry) → has_base (plain ballot cut es) ≡ false
-plain_open None None es = appended_open es
-plain_open None (Some k) es = appended_open es
-plain_open (Some v) None es = appended_open es
-plain_open (Some v) (Some k) es = appended_open es
+plain_open None None es = entries_open es
+plain_open None (Some k) es = entries_open es
+plain_open (Some v) None es = entries_open es
+plain_open (Some v) (Some k) es = entries_open es
 
 plain_boots : (b : ℕ) (ballot : Option (ℕ × ℕ)) (cut : Option ℕ) (es : List LogEntry) → boot_after b (plain ballot cut es) ≡ b
 plain_boots b None None es = entries_boot b es

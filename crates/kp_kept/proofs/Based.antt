@@ -1,5 +1,5 @@
 -- The log that opening finds begins behind its image.
-use Rattle.std.proofs.Common.{◌≡◌, ℕ, Bool, true, false, cond, List, [], ◌∷◌, drop, get_or, Option, Some, None, Result, Ok, Err, refl, ap, sym, subst, ◌∙◌}
+use Rattle.std.proofs.Common.{◌≡◌, ℕ, Bool, true, false, cond, List, [], ◌∷◌, drop, get_or, Option, Some, None, Result, Ok, Err, refl, ap, subst}
 use Rattle.kp_entry.specs.declared.record.Record.{Record}
 use Rattle.kp_entry.specs.declared.record.Record.TheVariants as record_
 use Rattle.kp_entry.specs.Held.{Held, replay_one, replay}
@@ -8,7 +8,7 @@ use Rattle.kp_journal.specs.Frames.{Run}
 use Rattle.kp_snapshot.specs.Snapshots.{Snapshot}
 use Rattle.kp_homes.specs.declared.fail.HomeFail.{HomeFail}
 use Rattle.kp_homes.specs.Stands.{Bytes4, Stand, choice, stands}
-use Rattle.kp_homes.specs.Opening.{Start, Found, base_of, blank_start, is_fit, refused_at, misfit, started, unless, restarted, image_in, with_start, behind_image, found_in, found_by, live_slot, found}
+use Rattle.kp_homes.specs.Opening.{Found, base_of, blank_start, is_fit, refused_at, misfit, started, unless, restarted, image_in, with_start, behind_image, found_by, live_slot, found}
 
 pub record BasedOn (l m : Log) : Type 0 where
   pub base : m.base ≡ l.base

@@ -1,5 +1,5 @@
 -- What is found on a home, and what a call on it costs.
-use Rattle.std.proofs.Common.{◌≡◌, inl, ℕ, ◌≤◌, ◌<◌, ◌^◌, Bool, true, false, cond, List, Option, Some, None, Result, Ok, Err, refl, arith}
+use Rattle.std.proofs.Common.{◌≡◌, inl, ℕ, ◌≤◌, ◌<◌, ◌^◌, Bool, true, false, cond, List, Option, Result, Ok, Err, refl, arith}
 use Rattle.std.specs.Prelude.{OnOk, IsErrOf}
 use Rattle.kp_io.specs.Crash.{Past, HasRoom}
 use Rattle.kp_io.specs.Faults.{Rose}

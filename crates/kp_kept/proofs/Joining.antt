@@ -1,11 +1,11 @@
 -- The records of several steps, one behind the other.
-use Rattle.std.proofs.Common.{◌≡◌, ℕ, zero, suc, ◌+◌, ◌<◌, ◌≤◌, Bool, true, false, Option, Some, None, List, [], ◌∷◌, ◌++◌, length, take, get_or, refl, ap, sym, ◌∙◌, arith, append-nil, append_assoc}
+use Rattle.std.proofs.Common.{◌≡◌, ℕ, zero, suc, ◌+◌, ◌<◌, Bool, true, false, Option, Some, None, List, [], ◌∷◌, ◌++◌, length, take, get_or, refl, ap, sym, ◌∙◌, arith, append-nil, append_assoc}
 use Rattle.std.proofs.lemmas.List.Folds.{list_any-append}
 use Rattle.std.specs.Prelude.{◌||◌, is_some}
 use Rattle.kp_entry.specs.declared.record.Record.{Record}
 use Rattle.kp_entry.specs.Records.{is_base, has_base}
 use Rattle.kp_snapshot.specs.Snapshots.{Snapshot}
-use Rattle.kp_kept.specs.Ahead.{Waiting, all_records, records_behind, waits_behind}
+use Rattle.kp_kept.specs.Ahead.{Waiting, all_records, waits_behind}
 
 no_left : (a b : Bool) → (a || b) ≡ false → a ≡ false
 no_left true b e = absurd (cc e)

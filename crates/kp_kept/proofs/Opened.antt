@@ -1,10 +1,10 @@
 -- A node that starts with what its home kept.
-use Rattle.std.proofs.Common.{◌≡◌, ℕ, ◌+◌, ◌≤◌, ◌^◌, length, arith, true, List, [], Option, Some, None, Result, Ok, Err, refl, ap, sym, subst, ◌∙◌}
+use Rattle.std.proofs.Common.{◌≡◌, ℕ, ◌+◌, ◌≤◌, ◌^◌, length, arith, List, Option, Some, None, Result, Ok, Err, refl, ap, sym, subst, ◌∙◌}
 use Rattle.std.specs.Prelude.{IfOk}
 use Rattle.kp_io.specs.Crash.{Past}
 use Rattle.kp_io.specs.declared.disk.Disk.{Ghosts}
 use Rattle.kp_model.specs.LogEntry.{LogEntry}
-use Rattle.kp_model.specs.State.{State, empty}
+use Rattle.kp_model.specs.State.{empty}
 use Rattle.kp_entry.specs.Held.{Held}
 use Rattle.kp_snapshot.specs.Snapshots.{Snapshot}
 use Rattle.kp_step.specs.Node.{Node}
@@ -15,15 +15,15 @@ use Rattle.kp_homes.specs.declared.home.Home.{Home}
 use Rattle.kp_homes.specs.declared.kept.Kept0.{Kept0}
 use Rattle.kp_homes.specs.Homes as homes
 use Rattle.kp_homes.specs.Homes.{IsKept, IsRefused}
-use Rattle.kp_homes.specs.Opening.{Start, Found, IsWithin, base_of, booted}
+use Rattle.kp_homes.specs.Opening.{Found, IsWithin, base_of, booted}
 use Rattle.kp_node.specs.Parts.{Parts, node_of}
 use Rattle.kp_node.specs.declared.start.Stored.{Stored}
-use Rattle.kp_node.specs.Starting.{state_in, term_in, Starts}
+use Rattle.kp_node.specs.Starting.{state_in, term_in}
 use Rattle.kp_kept.specs.Ahead.{start_of, nothing_waits, IsAhead, Waiting}
 use Rattle.kp_kept.specs.declared.kept.Kept.{Kept}
 use Rattle.kp_kept.specs.Keeping.{KeepsUp, waiting_of}
-use Rattle.kp_kept.specs.Opening.{Opened, disks_of, fail_of, StartsWith, begun_with, OpensNode}
-use Rattle.kp_kept.proofs.Based.{BasedOn, IsBehind}
+use Rattle.kp_kept.specs.Opening.{Opened, fail_of, StartsWith, begun_with, OpensNode}
+use Rattle.kp_kept.proofs.Based.{IsBehind}
 
 -- what was kept, as what the node holds
 base_in : (image : Option Snapshot) → ((state_in image).applied ≡ (base_of image).base) × (term_in image ≡ (base_of image).base_term)

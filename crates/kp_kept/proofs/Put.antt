@@ -1,5 +1,5 @@
 -- What waits for a node is put into its home.
-use Rattle.std.proofs.Common.{◌≡◌, ℕ, ◌≤◌, ◌<◌, ◌^◌, true, false, List, Option, Some, None, Result, Ok, Err, refl, ap, subst, sym, ◌∙◌}
+use Rattle.std.proofs.Common.{◌≡◌, ℕ, ◌≤◌, ◌<◌, ◌^◌, true, false, List, Option, Some, None, Result, Ok, Err, refl, ap, subst, ◌∙◌}
 use Rattle.std.specs.Prelude.{OnOk, IsSome, is_some}
 use Rattle.kp_io.specs.Crash.{Past, HasRoom}
 use Rattle.kp_entry.specs.declared.record.Record.{Record}
@@ -11,7 +11,7 @@ use Rattle.kp_homes.specs.declared.home.Home.{Home}
 use Rattle.kp_homes.specs.Opening.{Found, are_fit, blank_start}
 use Rattle.kp_homes.specs.Replays.{made_found}
 use Rattle.kp_node.specs.Keeping.{held_records}
-use Rattle.kp_kept.specs.Ahead.{IsBase, own, leads_to}
+use Rattle.kp_kept.specs.Ahead.{IsBase, own}
 use Rattle.kp_kept.specs.Finding.{Has, LeavesEither, LeavesBatch, HasBatch, LeavesNode, HasNode}
 use Rattle.kp_kept.proofs.Waits.{image_kept, own_fit, batch_kept}
 

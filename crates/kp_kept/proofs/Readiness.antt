@@ -4,7 +4,7 @@ use Rattle.std.proofs.lemmas.Option.{none-some, same_Some}
 use Rattle.kp_journal.specs.declared.fail.JournalFail.{JournalFail}
 use Rattle.kp_journal.specs.Journals.{Journaled, journal_of, StandsFor}
 use Rattle.kp_homes.specs.Stands.{IsReady}
-use Rattle.kp_kept.specs.Ready.{gate_in, live_of, MayTake}
+use Rattle.kp_kept.specs.Ready.{gate_in, MayTake}
 
 stands_by : (j : Journaled) (r : Result Journaled JournalFail) (xs : List ℕ) → journal_of j.head.node xs ≡ r → gate_in r ≡ Some j.gate → StandsFor j xs
 stands_by j (Ok v) xs is gate = (v, is, same_Some _ _ gate)

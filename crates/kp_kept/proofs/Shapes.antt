@@ -1,17 +1,17 @@
 -- The records of a step of Raft: a vote, a truncation and entries, or a vote and a base.
-use Rattle.std.proofs.Common.{◌≡◌, ℕ, ◌+◌, ◌-◌, ◌≤◌, ◌<◌, ◌^◌, Bool, true, false, cond, List, [], ◌∷◌, ◌++◌, length, drop, Option, Some, None, refl, ap, sym, subst, ◌∙◌, arith, length-append}
-use Rattle.std.specs.Prelude.{◌&&◌, min, nat_lt, nat_le, nat_eq}
+use Rattle.std.proofs.Common.{◌≡◌, ℕ, ◌+◌, ◌≤◌, ◌<◌, ◌^◌, Bool, true, false, cond, List, [], ◌∷◌, ◌++◌, length, Option, Some, None, refl, ap, subst, ◌∙◌, arith, length-append}
+use Rattle.std.specs.Prelude.{◌&&◌, nat_lt, nat_eq}
 use Rattle.std.proofs.lemmas.Bool.Decides.{nat_tests}
 use Rattle.kp_model.specs.LogEntry.{LogEntry}
 use Rattle.kp_entry.specs.declared.record.Record.{Record}
 use Rattle.kp_entry.specs.declared.record.Record.TheVariants as record_
 use Rattle.kp_entry.specs.Heads.{voted, cut_off, appended}
 use Rattle.kp_entry.specs.Held.{Held, replay_one, replay}
-use Rattle.kp_entry.specs.Log.{Log, last_index, has_index, with_entries}
+use Rattle.kp_entry.specs.Log.{Log, last_index, has_index}
 use Rattle.kp_entry.specs.Records.{has_base}
 use Rattle.kp_raft.specs.Parts.{vote_records, with_cut}
 use Rattle.kp_step.specs.Step.{ends_from, ends_in_base}
-use Rattle.kp_homes.specs.Opening.{boot_after, is_fit, are_fit}
+use Rattle.kp_homes.specs.Opening.{boot_after, are_fit}
 
 abbrev pub plain : Option (ℕ × ℕ) → Option ℕ → List LogEntry → List Record
 plain ballot cut es = (voted ballot ++ cut_off cut) ++ appended es

@@ -1,5 +1,5 @@
 -- What a step of a node leads to.
-use Rattle.std.proofs.Common.{◌≡◌, ℕ, ◌+◌, ◌≤◌, ◌^◌, true, false, List, Option, Some, None, refl, ap, sym, subst, ◌∙◌}
+use Rattle.std.proofs.Common.{◌≡◌, ◌≤◌, ◌^◌, false, List, Option, Some, None, refl, ap, sym, subst, ◌∙◌}
 use Rattle.kp_entry.specs.declared.record.Record.{Record}
 use Rattle.kp_entry.specs.Held.{Held, replay}
 use Rattle.kp_entry.specs.Log.{last_index}
@@ -17,8 +17,7 @@ use Rattle.kp_node.specs.declared.outcome.Outcome.{Outcome}
 use Rattle.kp_node.specs.Facts.{words}
 use Rattle.kp_node.specs.Parts.{Parts, node_of}
 use Rattle.kp_node.specs.Steps.{Steps, images}
-use Rattle.kp_kept.specs.Ahead.{IsBase}
-use Rattle.kp_kept.proofs.Shapes.{IsPlain, IsBased, is_open, boots_none, are_all_fit, base_is}
+use Rattle.kp_kept.proofs.Shapes.{is_open, boots_none, are_all_fit, base_is}
 use Rattle.kp_kept.proofs.Leads.{ShowsMade, Keeps, asked_keeps}
 use Rattle.kp_kept.proofs.Turned.{Turns, turned_so}
 use Rattle.kp_kept.proofs.Waits.{Leads, wants}

@@ -1,5 +1,5 @@
 -- A thought leaves a node ahead of its home.
-use Rattle.std.proofs.Common.{◌≡◌, ℕ, List, Option, Some, None, Result, Ok, Err, ap, sym, subst, ◌∙◌}
+use Rattle.std.proofs.Common.{◌≡◌, ℕ, List, Option, Result, Ok, Err, ap, sym, subst, ◌∙◌}
 use Rattle.std.specs.Prelude.{IfOk}
 use Rattle.kp_io.specs.Crash.{Past}
 use Rattle.kp_io.specs.declared.disk.Disk.{Ghosts}

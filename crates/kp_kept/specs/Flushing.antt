@@ -1,11 +1,10 @@
 -- What a flush does to a node with its home.
-use Rattle.std.specs.Prelude.{◌≡◌, ℕ, ◌<◌, ◌^◌, Option, Some, None, Result, Ok, Err}
+use Rattle.std.specs.Prelude.{◌≡◌, ℕ, ◌<◌, ◌^◌, Some, None, Result, Ok, Err}
 use Rattle.kp_io.specs.Faults.{Rose}
 use Rattle.kp_io.specs.Homes.{home_faults}
 use Rattle.kp_io.specs.declared.disk.Disk.{Ghosts}
 use Rattle.kp_event.specs.declared.fail.KeptFail.{KeptFail}
 use Rattle.kp_event.specs.declared.fail.KeptFail.TheVariants as fail
-use Rattle.kp_event.specs.declared.fail.Why.{Why}
 use Rattle.kp_event.specs.declared.fail.Why.TheVariants as why
 use Rattle.kp_kept.specs.declared.kept.Kept.{Kept}
 

@@ -1,5 +1,10 @@
 //! A node with its home.
 
+ghost use Rattle.std.specs.Prelude.{◌≡◌, None, false};
+ghost use Rattle.kp_entry.specs.Records.{has_base};
+ghost use Rattle.kp_kept.specs.Ahead.{all_records};
+ghost use Rattle.kp_kept.specs.Ready.{MayTake};
+
 use kp_entry::Records;
 use kp_event::Why;
 use kp_homes::Home;
@@ -7,11 +12,6 @@ use kp_io::Disk;
 use kp_node::Node;
 use kp_snapshot::Image;
 use std::alloc::Global;
-
-ghost use Rattle.std.specs.Prelude.{◌≡◌, None, false};
-ghost use Rattle.kp_entry.specs.Records.{has_base};
-ghost use Rattle.kp_kept.specs.Ahead.{all_records};
-ghost use Rattle.kp_kept.specs.Ready.{MayTake};
 
 /// A node with the home that it is kept in. It takes events in memory, and keeps what they want kept later, so that one
 /// batch serves many of them. What is said and sent of an event may leave once it is kept.

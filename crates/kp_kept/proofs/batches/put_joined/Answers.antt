@@ -1,4 +1,4 @@
-use Rattle.std.proofs.Common.{List, ◌≡◌, ap, ◌∙◌, subst, length, OnOk, ◌+◌}
+use Rattle.std.proofs.Common.{List, ap, ◌∙◌, subst, length, OnOk, ◌+◌}
 use Rattle.kp_entry.specs.declared.record.Record.{Record}
 use Rattle.kp_entry.specs.Records.{spelled}
 use Rattle.kp_homes.specs.Opening.{with_records}

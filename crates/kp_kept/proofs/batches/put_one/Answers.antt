@@ -1,4 +1,3 @@
-use Rattle.std.proofs.Common.{ℕ}
 use Rattle.kp_io.specs.Homes.{home_faults}
 use Rattle.kp_homes.specs.declared.home.Home.{Home}
 use Rattle.kp_kept.proofs.Found.{batch_had, costs_so, slot_small}

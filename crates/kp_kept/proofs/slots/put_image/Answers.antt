@@ -1,4 +1,4 @@
-use Rattle.std.proofs.Common.{ℕ, ◌≤◌, ◌^◌, Option, Some, length, ap, subst, sym, ◌∙◌, OnOk}
+use Rattle.std.proofs.Common.{ℕ, ◌≤◌, ◌^◌, Option, length, ap, subst, sym, ◌∙◌, OnOk}
 use Rattle.std.specs.Prelude.{IsSome}
 use Rattle.kp_io.specs.Homes.{home_faults}
 use Rattle.kp_entry.specs.Records.{has_base}

@@ -1,5 +1,4 @@
 use Rattle.std.proofs.Common.{sym, ◌∙◌}
-use Rattle.std.specs.Option.{is_some}
 use Rattle.kp_node.specs.Parts.{node_of}
 use Rattle.kp_kept.specs.Ahead.{all_records}
 use Rattle.kp_kept.proofs.Put.{batch_left, batch_has, none_is}

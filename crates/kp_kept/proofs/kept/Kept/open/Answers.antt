@@ -1,4 +1,4 @@
-use Rattle.std.proofs.Common.{ℕ, ◌<◌, ◌^◌, ◌≡◌, Ok, sym, subst, ◌∙◌}
+use Rattle.std.proofs.Common.{sym, subst, ◌∙◌}
 use Rattle.kp_io.specs.Crash.{HasRoom}
 use Rattle.kp_io.specs.declared.home.Four.{Four}
 use Rattle.kp_homes.specs.Homes as homes

@@ -1,5 +1,5 @@
 //! Tests of the crates on a client's side of a node, by their public calls: what no clause of theirs says, and that each
-//! call succeeds with ample memory. There is nothing else in this crate.
+//! call succeeds with ample memory; and the frames of those clients, for the tests above. There is nothing else in this crate.
 #![tactic(auto)]
 
 #[cfg(test)]
@@ -8,8 +8,7 @@ mod again;
 mod connection;
 #[cfg(test)]
 mod cutting;
-#[cfg(test)]
-mod frames;
+pub mod frames;
 #[cfg(test)]
 mod watches;
 #[cfg(test)]

@@ -1,10 +1,11 @@
 -- The records of several steps, one behind the other.
-use Rattle.std.proofs.Common.{◌≡◌, ℕ, zero, suc, ◌+◌, ◌<◌, ◌≤◌, Bool, true, false, List, [], ◌∷◌, ◌++◌, length, take, get_or, refl, ap, sym, ◌∙◌, arith, append-nil, append_assoc}
+use Rattle.std.proofs.Common.{◌≡◌, ℕ, zero, suc, ◌+◌, ◌<◌, Bool, true, false, Option, Some, None, List, [], ◌∷◌, ◌++◌, length, take, get_or, refl, ap, sym, ◌∙◌, arith, append-nil, append_assoc}
 use Rattle.std.proofs.lemmas.List.Folds.{list_any-append}
-use Rattle.std.specs.Prelude.{◌||◌}
+use Rattle.std.specs.Prelude.{◌||◌, is_some}
 use Rattle.kp_entry.specs.declared.record.Record.{Record}
 use Rattle.kp_entry.specs.Records.{is_base, has_base}
-use Rattle.kp_kept.specs.Ahead.{all_records}
+use Rattle.kp_snapshot.specs.Snapshots.{Snapshot}
+use Rattle.kp_kept.specs.Ahead.{Waiting, all_records, waits_behind}
 
 no_left : (a b : Bool) → (a || b) ≡ false → a ≡ false
 no_left true b e = absurd (cc e)
@@ -53,3 +54,26 @@ pub only_one : (rss : List (List Record)) (rs : List Record) → length rss ≡ 
 only_one [] rs len is = absurd (cc len)
 only_one (x ∷ []) rs len is = is ∙ sym (append-nil x)
 only_one (x ∷ (y ∷ rss)) rs len is = absurd (omega (arith, len))
+
+pub pushed_waits : (image : Option Snapshot) (old new : List (List Record)) (rs : List Record) → is_some image ≡ false → new ≡ old ++ rs ∷ []
+    → ◌≡◌ {A = Waiting} (record { image = image; records = all_records new }) (waits_behind (record { image = image; records = all_records old }) rs None)
+pushed_waits None old new rs none is = ap (λ (xs : List Record). let w : Waiting = record { image = None; records = xs } in w) (ap all_records is ∙ joined_push old rs)
+pushed_waits (Some i) old new rs none is = absurd (cc none)
+
+pub pushed_open : (old new : List (List Record)) (rs : List Record) → has_base (all_records old) ≡ false → has_base rs ≡ false → new ≡ old ++ rs ∷ [] → has_base (all_records new) ≡ false
+pushed_open old new rs e f is = ap (λ (rss : List (List Record)). has_base (all_records rss)) is ∙ ap has_base (joined_push old rs) ∙ open_both (all_records old) rs e f
+
+pub dropped_waits : (image : Option Snapshot) (old rs : List Record) → is_some image ≡ true → ◌≡◌ {A = Waiting} (record { image = image; records = old }) (waits_behind (record { image = image; records = old }) rs None)
+dropped_waits None old rs some = absurd (cc some)
+dropped_waits (Some i) old rs some = refl
+
+no_records : (rs : List Record) → length rs ≡ 0 → rs ≡ []
+no_records [] len = refl
+no_records (r ∷ rs) len = absurd (omega (arith, len))
+
+empty_waits_of : (image : Option Snapshot) (old : List Record) → ◌≡◌ {A = Waiting} (record { image = image; records = old }) (waits_behind (record { image = image; records = old }) [] None)
+empty_waits_of None old = ap (λ (xs : List Record). let w : Waiting = record { image = None; records = xs } in w) (sym (append-nil old))
+empty_waits_of (Some i) old = refl
+
+pub empty_waits : (image : Option Snapshot) (old rs : List Record) → length rs ≡ 0 → ◌≡◌ {A = Waiting} (record { image = image; records = old }) (waits_behind (record { image = image; records = old }) rs None)
+empty_waits image old rs len = empty_waits_of image old ∙ ap (λ (xs : List Record). waits_behind (record { image = image; records = old }) xs None) (sym (no_records rs len))

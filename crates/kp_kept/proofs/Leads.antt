@@ -1,5 +1,5 @@
 -- What a step of a node wants kept: plain records, or a base that is the image's.
-use Rattle.std.proofs.Common.{◌≡◌, ℕ, ◌+◌, ◌≤◌, ◌<◌, Bool, true, false, cond, List, [], ◌∷◌, ◌++◌, length, Option, Some, None, refl, ap, sym, subst, ◌∙◌, arith}
+use Rattle.std.proofs.Common.{◌≡◌, ℕ, Bool, true, false, cond, List, [], ◌∷◌, Option, Some, None, refl, ap, sym, ◌∙◌, arith}
 use Rattle.std.specs.Prelude.{◌==◌, ◌&&◌, nat_lt}
 use Rattle.std.proofs.lemmas.Bool.Decides.{nat_tests}
 use Rattle.std.specs.FinMap as map
@@ -25,7 +25,7 @@ use Rattle.kp_step.specs.Committing.{committed}
 use Rattle.kp_step.specs.Asking.{Words, Input, idle, asks, appends, reacted, installed, propose_if, taken_by, client_input, client_served, fed_end, is_csnp, may_propose, mail_as, own_image, commit_input, expiries, asked}
 use Rattle.kp_step.specs.Step.{base_image, ends_in_base}
 use Rattle.kp_kept.proofs.Shapes.{IsPlain, IsBased, pick, none, ends_in_none}
-use Rattle.kp_kept.proofs.Rules.{Wants, IsNoImage, IsNamed, react_wants, take_plain}
+use Rattle.kp_kept.proofs.Rules.{Wants, IsNoImage, react_wants, take_plain}
 
 -- an image that is made of a state shows it, with its term
 pub record ShowsMade {I : Type 0} (im : Images I) : Type 0 where

@@ -3,5 +3,11 @@ pub mod Rules
 pub mod Leads
 pub mod Turned
 pub mod Waits
-pub mod Found
 pub mod Joining
+pub mod Found
+pub mod Based
+pub mod Stepped
+pub mod Put
+pub mod Opened
+pub mod Thoughts
+pub mod Readiness

@@ -1,23 +1,22 @@
 -- What each rule of Raft wants kept: plain records, or a base with the index and the term of the image that it takes.
-use Rattle.std.proofs.Common.{◌≡◌, ℕ, ◌+◌, ◌-◌, ◌≤◌, ◌<◌, Bool, true, false, cond, List, [], ◌∷◌, ◌++◌, length, drop, Option, Some, None, refl, ap, sym, subst, ◌∙◌, arith}
-use Rattle.std.specs.Prelude.{◌&&◌, not, min, nat_lt, nat_le, nat_eq}
+use Rattle.std.proofs.Common.{◌≡◌, ℕ, ◌+◌, ◌-◌, ◌≤◌, ◌<◌, Bool, true, false, cond, List, [], ◌∷◌, ◌++◌, length, drop, Option, Some, None, refl, ap, sym, ◌∙◌, arith}
+use Rattle.std.specs.Prelude.{◌&&◌, min, nat_lt, nat_le, nat_eq}
 use Rattle.std.proofs.lemmas.Bool.Decides.{nat_tests}
 use Rattle.kp_model.specs.declared.entry.Body.{Body}
 use Rattle.kp_model.specs.LogEntry.{LogEntry}
-use Rattle.kp_entry.specs.declared.record.Record.{Record}
 use Rattle.kp_entry.specs.declared.record.Record.TheVariants as record_
-use Rattle.kp_entry.specs.Heads.{voted, appended}
+use Rattle.kp_entry.specs.Heads.{voted}
 use Rattle.kp_entry.specs.Held.{Held}
-use Rattle.kp_entry.specs.Log.{Log, last_index, has_index, behind, term_of}
+use Rattle.kp_entry.specs.Log.{Log, last_index, behind}
 use Rattle.kp_model.specs.Majority.{is_majority}
 use Rattle.kp_raft.specs.declared.append.AppendMail.{AppendMail}
 use Rattle.kp_raft.specs.declared.event.RaftEvent.{RaftEvent}
 use Rattle.kp_raft.specs.declared.event.RaftEvent.TheVariants as raft
 use Rattle.kp_raft.specs.declared.mail.Mail.{Mail}
 use Rattle.kp_raft.specs.declared.mail.Mail.TheVariants as mail
-use Rattle.kp_raft.specs.Parts.{Running, Outcome, nothing, vote_records, vote_at, is_leader}
+use Rattle.kp_raft.specs.Parts.{Running, Outcome, vote_at, is_leader}
 use Rattle.kp_raft.specs.Rules.{noop, may_stand, own_vote, grants, with_vote, counts, on_timeout, on_vote_req, on_term, on_vote_rep, on_append_rep, proposed, on_propose}
-use Rattle.kp_raft.specs.Appends.{fits, clashes, below_base, agreeing, matched, conflicts, keep_of, missing, on_append, on_install, on_compact}
+use Rattle.kp_raft.specs.Appends.{fits, clashes, below_base, agreeing, matched, conflicts, keep_of, missing, on_append, on_install}
 use Rattle.kp_raft.specs.Steps.{passes, passes_append, on_mail, take, all_of, react, image_in, image_of}
 use Rattle.kp_kept.proofs.Shapes.{IsPlain, IsBased, CutFits, pick, pick_by, none, entries_plain, vote_plain, vote_based, vote_and, change_plain}
 
@@ -35,6 +34,7 @@ cut_within base last prev len agreed some below =
     both : (a b : Bool) → a ≡ true → b ≡ true → (a && b) ≡ true
     both true b e f = f
     both false b e f = absurd (cc e)
+
     le_true : (m n : ℕ) → m ≤ n → nat_le m n ≡ true
     le_true m n le = grind (arith, nat_tests)
 

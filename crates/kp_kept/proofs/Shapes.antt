@@ -1,17 +1,17 @@
 -- The records of a step of Raft: a vote, a truncation and entries, or a vote and a base.
-use Rattle.std.proofs.Common.{◌≡◌, ℕ, ◌+◌, ◌-◌, ◌≤◌, ◌<◌, ◌^◌, Bool, true, false, cond, List, [], ◌∷◌, ◌++◌, length, drop, Option, Some, None, refl, ap, sym, subst, ◌∙◌, arith, length-append}
-use Rattle.std.specs.Prelude.{◌&&◌, min, nat_lt, nat_le, nat_eq}
+use Rattle.std.proofs.Common.{◌≡◌, ℕ, ◌+◌, ◌≤◌, ◌<◌, ◌^◌, Bool, true, false, cond, List, [], ◌∷◌, ◌++◌, length, Option, Some, None, refl, ap, subst, ◌∙◌, arith, length-append}
+use Rattle.std.specs.Prelude.{◌&&◌, nat_lt, nat_eq}
 use Rattle.std.proofs.lemmas.Bool.Decides.{nat_tests}
 use Rattle.kp_model.specs.LogEntry.{LogEntry}
 use Rattle.kp_entry.specs.declared.record.Record.{Record}
 use Rattle.kp_entry.specs.declared.record.Record.TheVariants as record_
 use Rattle.kp_entry.specs.Heads.{voted, cut_off, appended}
 use Rattle.kp_entry.specs.Held.{Held, replay_one, replay}
-use Rattle.kp_entry.specs.Log.{Log, last_index, has_index, with_entries}
+use Rattle.kp_entry.specs.Log.{Log, last_index, has_index}
 use Rattle.kp_entry.specs.Records.{has_base}
 use Rattle.kp_raft.specs.Parts.{vote_records, with_cut}
 use Rattle.kp_step.specs.Step.{ends_from, ends_in_base}
-use Rattle.kp_homes.specs.Opening.{boot_after, is_fit, are_fit}
+use Rattle.kp_homes.specs.Opening.{boot_after, are_fit}
 
 abbrev pub plain : Option (ℕ × ℕ) → Option ℕ → List LogEntry → List Record
 plain ballot cut es = (voted ballot ++ cut_off cut) ++ appended es
@@ -53,9 +53,9 @@ are_entries_fit h (e ∷ es) le =
     let first : nat_lt (last_index h.log) (2 ^ 62) ≡ true = grind (arith, nat_tests) in
     both_true _ _ first (are_entries_fit (replay_one h (record_.Append e)) es le)
 
-appended_open : (es : List LogEntry) → has_base (appended es) ≡ false
-appended_open [] = refl
-appended_open (e ∷ es) = appended_open es
+pub entries_open : (es : List LogEntry) → has_base (appended es) ≡ false
+entries_open [] = refl
+entries_open (e ∷ es) = entries_open es
 
 pub entries_boot : (b : ℕ) (es : List LogEntry) → boot_after b (appended es) ≡ b
 entries_boot b [] = refl
@@ -68,10 +68,10 @@ appended_ends (e ∷ es) = appended_ends es
 -- ---- plain records
 
 plain_open : (ballot : Option (ℕ × ℕ)) (cut : Option ℕ) (es : List LogEntry) → has_base (plain ballot cut es) ≡ false
-plain_open None None es = appended_open es
-plain_open None (Some k) es = appended_open es
-plain_open (Some v) None es = appended_open es
-plain_open (Some v) (Some k) es = appended_open es
+plain_open None None es = entries_open es
+plain_open None (Some k) es = entries_open es
+plain_open (Some v) None es = entries_open es
+plain_open (Some v) (Some k) es = entries_open es
 
 plain_boots : (b : ℕ) (ballot : Option (ℕ × ℕ)) (cut : Option ℕ) (es : List LogEntry) → boot_after b (plain ballot cut es) ≡ b
 plain_boots b None None es = entries_boot b es

@@ -1,13 +1,11 @@
 -- What a step says belongs to its event, and no step counts a start.
-use Rattle.std.proofs.Common.{◌≡◌, ℕ, Bool, true, false, cond, List, Option, Some, None, refl}
+use Rattle.std.proofs.Common.{◌≡◌, ℕ, List, Option, Some, None, refl}
 use Rattle.std.specs.FinMap as map
 use Rattle.kp_model.specs.LogEntry.{LogEntry}
 use Rattle.kp_raft.specs.declared.mail.Mail.{Mail}
 use Rattle.kp_raft.specs.Parts.{Outcome}
 use Rattle.kp_event.specs.declared.event.NodeEventKind.{NodeEventKind}
 use Rattle.kp_event.specs.declared.event.NodeEventKind.TheVariants as kind
-use Rattle.kp_event.specs.declared.said.Said.{Said}
-use Rattle.kp_event.specs.declared.said.Said.TheVariants as says
 use Rattle.kp_event.specs.Kinds.{row_of_kind, row_of_said}
 use Rattle.kp_conn.specs.declared.phase.Phase.{Phase}
 use Rattle.kp_conn.specs.declared.phase.Phase.TheVariants as phase

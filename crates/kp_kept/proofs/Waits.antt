@@ -1,5 +1,5 @@
 -- One step more waits, and what waits is kept.
-use Rattle.std.proofs.Common.{◌≡◌, ℕ, ◌+◌, ◌≤◌, ◌^◌, Bool, true, false, List, [], ◌∷◌, ◌++◌, length, Option, Some, None, refl, ap, sym, subst, ◌∙◌, arith, append_assoc}
+use Rattle.std.proofs.Common.{◌≡◌, ℕ, ◌≤◌, ◌^◌, Bool, true, false, List, [], ◌∷◌, ◌++◌, Option, Some, None, refl, ap, sym, subst, ◌∙◌, append_assoc}
 use Rattle.std.specs.Prelude.{◌&&◌, ◌||◌}
 use Rattle.kp_model.specs.LogEntry.{LogEntry}
 use Rattle.kp_entry.specs.declared.record.Record.{Record}
@@ -10,10 +10,10 @@ use Rattle.kp_entry.specs.Log.{Log, last_index, based_at, with_entries}
 use Rattle.kp_entry.specs.Records.{has_base}
 use Rattle.kp_snapshot.specs.Snapshots.{Snapshot}
 use Rattle.kp_step.specs.Node.{Node}
-use Rattle.kp_homes.specs.Opening.{Start, Found, boot_after, started, is_fit, are_fit, base_of, blank_start, with_records}
+use Rattle.kp_homes.specs.Opening.{Start, Found, boot_after, started, is_fit, are_fit, blank_start, with_records}
 use Rattle.kp_homes.specs.Replays.{made_found}
 use Rattle.kp_homes.proofs.Lifting.{started_append}
-use Rattle.kp_kept.specs.Ahead.{Waiting, waits_behind, start_of, own, IsBase, leads_to, IsAhead, image_then, found_then}
+use Rattle.kp_kept.specs.Ahead.{Waiting, waits_behind, start_of, own, IsBase, leads_to, IsAhead}
 use Rattle.kp_kept.proofs.Shapes.{are_entries_fit, entries_boot}
 
 both_true : (a b : Bool) → a ≡ true → b ≡ true → (a && b) ≡ true
@@ -76,9 +76,10 @@ goes_on : (old image : Option Snapshot) (was rs : List Record) (f : Found) (x y 
 goes_on old (Some i) was rs f x y l a = l.wanted
 goes_on None None was rs f x y l a =
     let held : replay f.start.held was ≡ x.held = ap (λ (s : Start). s.held) a.1 in
-    let fit : are_fit (replay f.start.held was) rs ≡ true = subst (λ (h : Held). are_fit h rs ≡ true) (sym held) l.wanted.1 in
-    (fits_append f.start.held was rs a.0 fit,
-     started_append f.start was rs ∙ ap (λ (s : Start). started s rs) a.1 ∙ start_is rs x y l.held l.boot l.wanted.2)
+    let fit : are_fit (replay f.start.held was) rs ≡ true = subst (λ (h : Held). are_fit h rs ≡ true) (sym held) l.wanted.1 in (
+      fits_append f.start.held was rs a.0 fit,
+      started_append f.start was rs ∙ ap (λ (s : Start). started s rs) a.1 ∙ start_is rs x y l.held l.boot l.wanted.2,
+    )
 goes_on (Some j) None was rs f x y l a =
     let same = base_stays x.held rs l.wanted.0 in
     record {

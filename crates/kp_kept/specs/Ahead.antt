@@ -1,5 +1,5 @@
 -- A node ahead of its home: what waits to be kept, and how it leads from what the home would open with to what the node is.
-use Rattle.std.specs.Prelude.{◌≡◌, ℕ, Bool, true, false, cond, List, [], ◌∷◌, ◌++◌, Option, Some, None, is_some}
+use Rattle.std.specs.Prelude.{◌≡◌, true, List, [], ◌∷◌, ◌++◌, Option, Some, None}
 use Rattle.kp_entry.specs.declared.record.Record.{Record}
 use Rattle.kp_snapshot.specs.Snapshots.{Snapshot}
 use Rattle.kp_step.specs.Node.{Node}

@@ -10,7 +10,6 @@ ghost use Rattle.kp_kept.specs.Ahead.{all_records};
 ghost use Rattle.kp_kept.specs.Answers.{Costs};
 ghost use Rattle.kp_kept.specs.Finding.{LeavesBatch, HasBatch};
 
-use crate::homes::keep_batch;
 use kp_entry::Records;
 use kp_homes::{Home, HomeFail};
 use kp_io::Disk;
@@ -60,9 +59,22 @@ pub(crate) fn put<H: Disk>(
 {
     match waiting {
         [] => Ok(()),
-        [records] => keep_batch(home, records),
+        [records] => put_one(home, records),
         _ => put_joined(alloc, home, waiting),
     }
+}
+
+// Puts these records into a home as one batch.
+fn put_one<H: Disk>(home: &mut Home<H>, records: &Records) -> Result<(), HomeFail>
+    requires ready { IsReady home.old.second (H.held home.old.disks.j0) (H.held home.old.disks.j1) home.old.journal }
+    requires plain { has_base records.now ≡ false }
+    ensures crash { LeavesBatch H.held H.past home.old home.new records.now }
+    ensures keeps { OnOk result (HasBatch H.held H.past home.old home.new records.now) }
+    ensures ready { OnOk result (IsReady home.new.second (H.held home.new.disks.j0) (H.held home.new.disks.j1) home.new.journal) }
+    ensures full { (slot len : ℕ) → IsErrOf result (home_fail.Full slot len) → (len ≡ home.old.journal.gate + 6 + length (spelled records.now)) × (slot ≡ slot_number home.old.second) }
+    ensures costs { Costs (λ (h : Home H). home_faults H.faults h.disks) home.old home.new result }
+{
+    home.append_batch(records)
 }
 
 // The same by a list of its own.
@@ -80,7 +92,7 @@ fn put_joined<H: Disk>(
     ensures costs { Costs (λ (h : Home H). home_faults H.faults h.disks) home.old home.new result }
 {
     let all = joined(alloc, waiting)?;
-    let kept = keep_batch(home, &all);
+    let kept = put_one(home, &all);
     drop(all);
     kept
 }

@@ -2,5 +2,11 @@
 #![tactic(auto)]
 
 mod batches;
-mod homes;
+mod flushing;
+mod kept;
+mod opening;
 mod refusals;
+mod slots;
+mod thinking;
+
+pub use kept::Kept;

@@ -57,6 +57,7 @@ pub mod Applies
 pub mod Asides
 pub mod Committed
 pub mod Noted
+pub mod Chosen
 pub mod Naming
 pub mod Delivered
 pub mod Kept

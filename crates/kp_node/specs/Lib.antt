@@ -44,6 +44,7 @@ pub mod Guests
 pub mod Applied
 pub mod Commits
 pub mod Spoken
+pub mod Sure
 pub mod Naming
 pub mod Delivering
 pub mod Keeping

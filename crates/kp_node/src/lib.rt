@@ -1,9 +1,7 @@
 //! A node: the Raft step, the storage, connections, watches and expiry put together, one step for each event.
 //!
-//! What a node does is defined in `kp_step`; here stands the code of it. So far it has the node and its start, and these
-//! events: connections that come, go and take what is ready for them, timeouts, all messages between nodes, a leader's
-//! beat, applied entries, images of the log, and the end of sessions that were not heard. Of the other, bytes of a client,
-//! it has the parts: how requests join, are handed in and answered, and how connect requests are looked at.
+//! What a node does is defined in `kp_step`; here stands the code of it, `Node::event`. Each kind of event has a file of its
+//! own, and what is done with one connection stands apart from what is done with all.
 #![tactic(auto)]
 
 mod ahead;
@@ -25,6 +23,7 @@ mod delivering;
 mod early;
 mod ending;
 mod entry;
+mod event;
 mod expiring;
 mod facts;
 mod filling;

@@ -1,6 +1,5 @@
-use Rattle.std.proofs.Common.{◌≡◌, ap, ◌∙◌, sym, take, false, ◌++◌}
+use Rattle.std.proofs.Common.{ap, ◌∙◌, sym, ◌++◌}
 use Rattle.kp_entry.specs.Records.{has_base}
-use Rattle.kp_kept.specs.Ahead.{all_records}
 use Rattle.kp_kept.proofs.Joining.{next_joined, part_open, one_open}
 use Rattle.kp_kept.proofs.batches.join_all.Goals as goal
 

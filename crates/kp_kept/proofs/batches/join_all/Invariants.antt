@@ -1,5 +1,4 @@
-use Rattle.std.proofs.Common.{◌≡◌, take, false}
-use Rattle.kp_entry.specs.Records.{has_base}
+use Rattle.std.proofs.Common.{◌≡◌, take}
 use Rattle.kp_kept.specs.Ahead.{all_records}
 use Rattle.kp_kept.proofs.batches.join_all.Given as goal
 

@@ -1,4 +1,4 @@
-use Rattle.std.proofs.Common.{List, ◌≡◌, ap, ◌∙◌, subst, length, OnOk, ◌+◌}
+use Rattle.std.proofs.Common.{List, ap, ◌∙◌, subst, length, OnOk, ◌+◌}
 use Rattle.kp_entry.specs.declared.record.Record.{Record}
 use Rattle.kp_entry.specs.Records.{spelled}
 use Rattle.kp_homes.specs.Opening.{with_records}
@@ -8,13 +8,13 @@ use Rattle.kp_kept.proofs.Found.{finds_it}
 use Rattle.kp_kept.proofs.batches.put_joined.Goals as goal
 
 pub returns-in_err-all-clause-crash : goal.returns-in_err-all-clause-crash
-returns-in_err-all-clause-crash g c = λ f k fits room. finds_it g.H.Disk.held g.H.Disk.past c.args.home.now.disks c.args.home.now.second c.args.home.now.journal f k (with_records (all_records c.args.waiting.now) f)
+returns-in_err-all-clause-crash g c = λ f k room fits. finds_it g.H.Disk.held g.H.Disk.past c.args.home.now.disks c.args.home.now.second c.args.home.now.journal f k (with_records (all_records c.args.waiting.now) f)
 
 pub returns-clause-crash : goal.returns-clause-crash
-returns-clause-crash g c = subst (λ (rs : List Record). LeavesBatch g.H.Disk.held g.H.Disk.past c.args.home.now c.keep_batch-kept.new.home rs) c.in_ok-all.ensures c.keep_batch-kept.ensures.crash
+returns-clause-crash g c = subst (λ (rs : List Record). LeavesBatch g.H.Disk.held g.H.Disk.past c.args.home.now c.put_one-kept.new.home rs) c.in_ok-all.ensures c.put_one-kept.ensures.crash
 
 pub returns-clause-keeps : goal.returns-clause-keeps
-returns-clause-keeps g c = subst (λ (rs : List Record). OnOk c.keep_batch-kept.result (HasBatch g.H.Disk.held g.H.Disk.past c.args.home.now c.keep_batch-kept.new.home rs)) c.in_ok-all.ensures c.keep_batch-kept.ensures.keeps
+returns-clause-keeps g c = subst (λ (rs : List Record). OnOk c.put_one-kept.result (HasBatch g.H.Disk.held g.H.Disk.past c.args.home.now c.put_one-kept.new.home rs)) c.in_ok-all.ensures c.put_one-kept.ensures.keeps
 
 pub returns-clause-full : goal.returns-clause-full
-returns-clause-full g c = λ slot len e. let f = (c.keep_batch-kept.ensures.full slot len).0 e in (f.1 ∙ ap (λ (rs : List Record). c.args.home.now.journal.gate + 6 + length (spelled rs)) c.in_ok-all.ensures, f.2)
+returns-clause-full g c = λ slot len e. let f = c.put_one-kept.ensures.full slot len e in (f.0 ∙ ap (λ (rs : List Record). c.args.home.now.journal.gate + 6 + length (spelled rs)) c.in_ok-all.ensures, f.1)

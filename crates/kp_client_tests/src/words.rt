@@ -20,12 +20,12 @@ const ROWS: [Row; 16] = [
     ),
     (
         b"cons",
-        Some(" C session=0xab waiting=12\n C session=0x0 waiting=0\n"),
+        Some(" 1 session=0xab waiting=12\n 4 session=0x0 waiting=0\n"),
     ),
     (
         b"stat",
         Some(
-            "Clients:\n C session=0xab waiting=12\n C session=0x0 waiting=0\n\nKeeper version: 1\nMode: follower\nZxid: 0x1f\nNode count: 5\nConnections: 2\nSessions: 3\nWatches: 4\n",
+            "Clients:\n 1 session=0xab waiting=12\n 4 session=0x0 waiting=0\n\nKeeper version: 1\nMode: follower\nZxid: 0x1f\nNode count: 5\nConnections: 2\nSessions: 3\nWatches: 4\n",
         ),
     ),
     (

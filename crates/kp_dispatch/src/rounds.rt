@@ -11,13 +11,11 @@ ghost use Rattle.kp_dispatch.specs.Rounds.{BehindTells, FrontTells, IsRound, Lea
 use crate::ends::{ConnEnd, end_of};
 use crate::output::write_out;
 use crate::plans::plan_front;
-use kp_event::{Carried, FedWord, KeptFail, NodeEventKind, OutPiece, Said, Thought};
+use kp_event::{FedWord, KeptFail, NodeEventKind, OutPiece, Said, Thought};
 use kp_io::{Clock, Sink};
 use kp_links::{LinkSeat, Links};
 use kp_model::Bytes;
-use kp_shared::{
-    Kept, NodeSeat, Peers, Refusal, Served, SharedNode, Told, post_thought, think_kept, think_plan,
-};
+use kp_shared::{Carried, Kept, NodeSeat, Peers, Refusal, Served, SharedNode, Told, post_thought, think_kept, think_plan};
 use kp_turn::{Turn, TurnSeat};
 use std::alloc::Global;
 use std::sync::Wait;

@@ -6,10 +6,10 @@ ghost use Rattle.kp_dispatch.specs.Ticks.{CarryTells, TickTells, WorkTells};
 
 use crate::ends::{Turned, turned_of};
 use crate::plans::{plan_carry, plan_tick};
-use kp_event::{Carried, KeptFail};
+use kp_event::KeptFail;
 use kp_io::Clock;
 use kp_links::{LinkSeat, Links};
-use kp_shared::{Kept, NodeSeat, Refusal, SharedNode, Step, make_turn, post_all};
+use kp_shared::{Carried, Kept, NodeSeat, Refusal, SharedNode, Step, make_turn, post_all};
 use std::alloc::{AllocError, Global};
 use std::sync::Wait;
 

@@ -2,7 +2,7 @@
 
 ghost use Rattle.std.specs.Prelude.{◌≡◌, ◌^◌, ◌≤◌};
 ghost use Rattle.kp_entry.specs.Log.{last_index};
-ghost use Rattle.kp_step.specs.Node.{last};
+ghost use Rattle.kp_step.specs.Node.{last, unapplied};
 ghost use Rattle.kp_step.specs.Step.{standing_of};
 ghost use Rattle.kp_node.specs.Parts.{node_of};
 ghost use Rattle.kp_node.specs.Steps.{quietly, given_behind};
@@ -57,7 +57,8 @@ impl Model for Node {
 impl Node {
     /// The storage: the committed state, and the entries that aren't applied yet.
     pub fn storage(&self) -> &Storage
-        ensures { result.now ≡ self.now.store }
+        ensures store { result.now ≡ self.now.store }
+        ensures unapplied { result.now.unapplied ≡ unapplied (node_of self.now) }
     {
         &self.storage
     }

@@ -7,7 +7,8 @@ ghost use Rattle.kp_shared.specs.TaskLaws.{DiesOnce, Histories, KeepsAll};
 ghost use Rattle.kp_shared.specs.TaskSteps.{Flushes, IsTaskStep, Thinks};
 
 use crate::task::{Answer, Task};
-use kp_event::{Carried, KeptFail, NodeEvent, Thought, Why};
+use crate::carried::Carried;
+use kp_event::{KeptFail, NodeEvent, Thought, Why};
 use kp_turn::Storied;
 
 /// How far a node is and why it died, for contracts alone: no value of it is ever made.

@@ -3,8 +3,9 @@ ghost use Rattle.std.specs.Prelude.{◌≡◌, [], ◌∷◌};
 ghost use Rattle.kp_shared.specs.Posts.{HasSeat, HasSeats, Posts, SentTo};
 ghost use Rattle.kp_shared.specs.Tasks.{mails_of};
 
+use crate::carried::Carried;
 use crate::peers::Peers;
-use kp_event::{Carried, Said, Thought};
+use kp_event::{Said, Thought};
 use kp_links::{LinkSeat, Links};
 use kp_model::Items;
 use std::sync::Wait;

@@ -10,11 +10,11 @@ ghost use Rattle.kp_shared.specs.Posts.{HasSeat, HasSeats};
 ghost use Rattle.kp_shared.specs.Sharing.{AreBlank, HasSplit, IsBlank, IsFirstSeat, IsNewSeat, IsNodeSeatOf, SplitSeats, Splits};
 ghost use Rattle.kp_shared.specs.TaskSteps.{IsAlive};
 
+use crate::carried::Carried;
 use crate::kept::{Kept, Served};
 use crate::node::{NodeOf, NodeSeat, NodeSeatOf, SharedNode};
 use crate::peers::Peers;
 use crate::told::Told;
-use kp_event::Carried;
 use kp_links::{LinkSeat, Links};
 use kp_turn::{NoMemory, StopWord, Turn};
 use std::alloc::{AllocError, Global};

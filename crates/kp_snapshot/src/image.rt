@@ -8,7 +8,7 @@ ghost use Rattle.kp_snapshot.specs.Snapshots.{Snapshot, images, snapshot_in, IsI
 
 use crate::check::check;
 use crate::fail::ImageFail;
-use kp_model::NoMemory;
+use kp_model::{Duplicate, NoMemory};
 use std::alloc::Global;
 use std::marker::Model;
 
@@ -112,5 +112,11 @@ impl Image {
                 Err(ImageFail::from(fail))
             }
         }
+    }
+}
+
+impl Duplicate for Image {
+    fn duplicate(&self, alloc: Global) -> Result<Image, NoMemory> {
+        self.copy(alloc)
     }
 }

@@ -30,8 +30,9 @@ hex_line n = line (hex_text n)
 unfoldable pub path_line : List ℕ → List ℕ
 path_line path = (9 ∷ []) ++ line path
 
+-- a connection by its number
 unfoldable pub conn_line : ConnFacts → List ℕ
-conn_line c = codes " C session=" ++ (hex_text c.session ++ (codes " waiting=" ++ number_line c.waiting))
+conn_line c = codes " " ++ (decimal c.number ++ (codes " session=" ++ (hex_text c.session ++ (codes " waiting=" ++ number_line c.waiting))))
 
 unfoldable pub session_line : List ℕ → ℕ → List ℕ
 session_line before session = before ++ hex_line session

@@ -93,7 +93,9 @@ pub(crate) fn print_path(path: &Text, out: &mut Vec<u8>) -> Result<(), NoMemory>
 pub(crate) fn print_conn(conn: &ConnFacts, out: &mut Vec<u8>) -> Result<(), NoMemory>
     ensures { OnOk result (out.new.items ≡ out.old.items ++ conn_line conn.now) }
 {
-    print(" C session=", out)?;
+    print(" ", out)?;
+    print_number(conn.number, out)?;
+    print(" session=", out)?;
     print_hex(conn.session, out)?;
     print(" waiting=", out)?;
     print_number_line(conn.waiting, out)

@@ -9,7 +9,8 @@ use crate::heard::{Heard, Woken};
 use crate::inbox::Inbox;
 use crate::lines::Lines;
 use crate::pace::{Due, Pace};
-use kp_event::{Carried, NodeEventKind};
+use kp_event::NodeEventKind;
+use kp_shared::Carried;
 use std::alloc::Global;
 use std::sync::Wait;
 

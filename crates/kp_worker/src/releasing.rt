@@ -8,9 +8,9 @@ ghost use Rattle.kp_worker.specs.Outside.{AllThere, Stays, Tells};
 use crate::lines::Lines;
 use crate::note::{Mark, Note};
 use crate::noting::{drained, ended, opened, starved};
-use kp_event::{Carried, Said};
+use kp_event::Said;
 use kp_links::{LinkSeat, Links};
-use kp_shared::{Peers, post_thought};
+use kp_shared::{Carried, Peers, post_thought};
 use std::sync::Wait;
 
 // Gives a new connection the number that was opened for it.

@@ -1,4 +1,4 @@
-use kp_event::Carried;
+use kp_shared::Carried;
 
 /// A message for a node.
 #[derive(Drop)]

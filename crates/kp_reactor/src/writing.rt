@@ -1,0 +1,20 @@
+// A write that does not wait.
+ghost use Rattle.std.specs.Io.{WritesAtMost};
+ghost use Rattle.std.specs.Io.KnownBytes.{WriteAppends};
+
+use crate::reading::is_later;
+use std::io::{Error, Write};
+
+/// Puts the first n bytes of `bytes` behind what a writer that never waits holds, and answers n, which is 0 where it can take none
+/// now.
+///
+/// The error is the writer's own, and puts no byte. It is none of the two that say that it can take none now.
+pub fn write_now<T: Write>(writer: &mut T, bytes: &[u8]) -> Result<usize, Error>
+    ensures bound { WritesAtMost result bytes.now }
+    ensures bytes { WriteAppends (T.contents writer.old) (T.contents writer.new) result bytes.now }
+{
+    match writer.write(bytes) {
+        Ok(count) => Ok(count),
+        Err(error) => { if is_later(&error) { Ok(0) } else { Err(error) } }
+    }
+}

@@ -1,6 +1,8 @@
 -- What a read that does not wait does to the bytes that are still to come (this project's own).
-use Rattle.std.specs.Prelude.{ℕ, List, Option, Result, Ok, Err, take}
+use Rattle.std.specs.Prelude.{ℕ, Bool, true, false, List, Option, Result, Ok, Err, take}
 use Rattle.std.specs.Io.KnownBytes.{Consumes, IsAtEnd, Keeps}
+use Rattle.std.specs.declared.io.ErrorKind.{ErrorKind}
+use Rattle.std.specs.declared.io.ErrorKind.TheVariants as kind
 use Rattle.kp_io.specs.declared.stream.Took.{Took}
 use Rattle.kp_io.specs.declared.stream.Took.TheVariants as took
 
@@ -13,3 +15,9 @@ TookOf old new took.Later into = Keeps old new
 abbrev pub ReadsNow : {E : Type 0} → Option (List ℕ) → Option (List ℕ) → Result Took E → List ℕ → Type 0
 ReadsNow old new (Ok t) into = TookOf old new t into
 ReadsNow old new (Err e) into = Keeps old new
+
+-- the call would have waited, or was cut off before it did anything
+abbrev pub is_later_kind : ErrorKind → Bool
+is_later_kind kind.WouldBlock = true
+is_later_kind kind.Interrupted = true
+is_later_kind _ = false

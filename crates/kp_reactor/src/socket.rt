@@ -1,7 +1,6 @@
 // The two halves of a socket: what comes of it, and what goes out to it.
-ghost use Rattle.std.specs.Prelude.{◌≡◌, ◌<◌, None, false, IfOk, length};
-ghost use Rattle.std.specs.Io.{WritesAtMost};
-ghost use Rattle.std.specs.Io.KnownBytes.{WriteAppends};
+ghost use Rattle.std.specs.Prelude.{◌≡◌, None, false, IfOk};
+ghost use Rattle.std.specs.Arc.{arc_value};
 
 use crate::reading::read_now;
 use crate::writing::write_now;
@@ -27,7 +26,10 @@ pub struct SocketOut {
 }
 
 /// Both halves of a socket. It is closed once both were let go.
-pub fn halves(alloc: Global, socket: TcpStream) -> Result<(SocketIn, SocketOut), AllocError> {
+pub fn halves(alloc: Global, socket: TcpStream) -> Result<(SocketIn, SocketOut), AllocError>
+    ensures both { IfOk result (λ p. (arc_value p.0.socket ≡ socket) × (arc_value p.1.socket ≡ socket)) }
+    ensures new { IfOk result (λ p. (p.0.ended ≡ false) × (p.0.faults ≡ 0) × (p.1.faults ≡ 0)) }
+{
     let socket = Arc::new(alloc, socket)?;
     let other = socket.clone()?;
     Ok((
@@ -45,7 +47,9 @@ pub fn halves(alloc: Global, socket: TcpStream) -> Result<(SocketIn, SocketOut),
 
 impl SocketIn {
     /// Lends the socket.
-    pub fn socket(&self) -> &TcpStream {
+    pub fn socket(&self) -> &TcpStream
+        ensures { result.now ≡ arc_value self.now.socket }
+    {
         &self.socket
     }
 }

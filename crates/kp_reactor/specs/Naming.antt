@@ -35,6 +35,10 @@ module _ {S : Type 0} where
   numbers_of names [] = []
   numbers_of names (t ∷ ts) = listed (name_in (get nat_eq names t)) ++ numbers_of names ts
 
+-- the token of a listener: the last that there is
+abbrev pub of_listener : ℕ
+of_listener = 18446744073709551615
+
 -- the tokens of these events
 abbrev pub tokens_of : List Event → List ℕ
 tokens_of [] = []

@@ -12,7 +12,7 @@ use Rattle.kp_reactor.specs.declared.reactor.WaitFail.{WaitFail}
 use Rattle.kp_reactor.specs.declared.reactor.WaitFail.TheVariants as wait
 use Rattle.kp_reactor.specs.declared.reactor.AcceptFail.{AcceptFail}
 use Rattle.kp_reactor.specs.declared.reactor.AcceptFail.TheVariants as accept
-use Rattle.kp_reactor.specs.Naming.{OthersStay, is_among, numbers_of, tokens_of}
+use Rattle.kp_reactor.specs.Naming.{OthersStay, is_among, numbers_of, of_listener, tokens_of}
 
 -- the door is open where the listener was told of, and else as it was
 abbrev pub door_behind : Bool → Door → Door
@@ -31,7 +31,7 @@ pub record Fails (r r' : Reactor) : Type 0 where
 
 -- the lines that the system told of are named, in order; of a token that is of no line nobody is
 abbrev pub Waits : Reactor → Reactor → Result (Vec ℕ Global) WaitFail → Type 0
-Waits r r' (Ok told) = (told.items ≡ numbers_of r.tokens.names (tokens_of (items r'.events))) × (r'.door ≡ door_behind (is_among 18446744073709551615 (tokens_of (items r'.events))) r.door) × (r'.tokens ≡ r.tokens) × (r'.faults ≡ r.faults)
+Waits r r' (Ok told) = (told.items ≡ numbers_of r.tokens.names (tokens_of (items r'.events))) × (r'.door ≡ door_behind (is_among of_listener (tokens_of (items r'.events))) r.door) × (r'.tokens ≡ r.tokens) × (r'.faults ≡ r.faults)
 Waits r r' (Err wait.NoMemory) = r' ≡ r
 Waits r r' (Err wait.Fault) = (r'.tokens ≡ r.tokens) × (r'.door ≡ r.door) × (r'.faults ≡ one_more r.faults)
 

@@ -4,7 +4,7 @@ ghost use Rattle.std.specs.HashMap.{get};
 ghost use Rattle.mio.specs.Events.{items};
 ghost use Rattle.kp_io.specs.Faults.{HasCause, one_more};
 ghost use Rattle.kp_reactor.specs.declared.reactor.AcceptFail.TheVariants.{Fault};
-ghost use Rattle.kp_reactor.specs.Naming.{HasRoom, OthersStay, is_among, listed, name_in, numbers_of, renamed, tokens_of};
+ghost use Rattle.kp_reactor.specs.Naming.{HasRoom, OthersStay, is_among, listed, name_in, numbers_of, of_listener, renamed, tokens_of};
 ghost use Rattle.kp_reactor.specs.Polls.{Accepts, Enters, Waits};
 
 use crate::tokens::Tokens;
@@ -116,7 +116,7 @@ fn list_numbers(events: &Events, tokens: &Tokens, told: &mut Vec<u64>) -> bool
     requires empty { told.old.items ≡ [] }
     requires room { length (items events.now) ≤ vec_capacity told.old }
     ensures told { told.new.items ≡ numbers_of tokens.now.names (tokens_of (items events.now)) }
-    ensures knocked { result ≡ is_among 18446744073709551615 (tokens_of (items events.now)) }
+    ensures knocked { result ≡ is_among of_listener (tokens_of (items events.now)) }
 {
     let mut knocked = false;
     for event in events.iter() {

@@ -4,4 +4,4 @@
 
 mod laws;
 
-pub use laws::{fronts_have_causes, nothing_is_said_of_nothing};
+pub use laws::{fronts_have_causes, nothing_is_said_of_nothing, writes_are_answered};

@@ -1,0 +1,32 @@
+//! The laws of what a client is answered. The contract of each function is a law; the function does nothing.
+
+ghost use Rattle.kp_answers.specs.Fronts.{FrontsHaveCauses, FrontsAreAnswered};
+ghost use Rattle.kp_answers.specs.Whence.{WritesAreAnswered};
+ghost use Rattle.kp_answers.specs.Says.{SaidTo, IsUnknown, IsMissing, IsAllApplied};
+
+/// On every state, of every request at the front of a queue. `causes`: it is answered as its entry was exactly where it
+/// keeps a reply; it waits exactly where it has a number and keeps none; of what has neither a write is answered -4 and
+/// all else as the state says. `answers`: what each of these is: the reply that is kept, -4, the state's answer.
+pub fn fronts_have_causes()
+    ensures causes { FrontsHaveCauses }
+    ensures answers { FrontsAreAnswered }
+{}
+
+/// At every event of every node. `unknown`: of bytes it is said that there is no such connection exactly where there is
+/// none or it is closing. `missing`: of a hangup and of a drain exactly where there is none. `applied`: of a commit it is
+/// said that there was none to apply exactly where the commit index isn't above the applied one, for a log that reaches
+/// its commit index, as every member's does.
+pub fn nothing_is_said_of_nothing<I>()
+    ensures unknown { SaidTo I IsUnknown }
+    ensures missing { SaidTo I IsMissing }
+    ensures applied { SaidTo I IsAllApplied }
+{}
+
+/// At every event of every node, of each answer. One that is an entry's goes to a request that waited on that connection
+/// and kept that reply, or whose entry is the one that is applied: a write of the connection's session and epoch with the
+/// request's number, and what it is answered is what that entry is. One that is -4 for want of a leader goes to a write
+/// that waited without a number, or joined at this event while no leader was known, the node led and its log had no room
+/// left, or the write's number would have passed the last one.
+pub fn writes_are_answered<I>()
+    ensures { WritesAreAnswered I }
+{}

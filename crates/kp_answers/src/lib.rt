@@ -1,0 +1,7 @@
+//! What a client is answered, and why: laws of the step of a node. The contract of each function is a law, of every node,
+//! every event and all choices; the functions do nothing.
+#![tactic(auto)]
+
+mod laws;
+
+pub use laws::{fronts_have_causes, nothing_is_said_of_nothing, writes_are_answered};

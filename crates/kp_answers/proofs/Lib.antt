@@ -6,3 +6,4 @@ pub mod Queues
 pub mod Whences
 pub mod Heard
 pub mod WhenceSteps
+pub mod Packets

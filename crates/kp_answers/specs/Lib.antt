@@ -1,3 +1,4 @@
 pub mod Fronts
 pub mod Says
 pub mod Whence
+pub mod Sent

@@ -2,6 +2,7 @@
 
 ghost use Rattle.kp_answers.specs.Fronts.{FrontsHaveCauses, FrontsAreAnswered};
 ghost use Rattle.kp_answers.specs.Whence.{WritesAreAnswered};
+ghost use Rattle.kp_answers.specs.Sent.{PacketsAreAnswers};
 ghost use Rattle.kp_answers.specs.Says.{SaidTo, IsUnknown, IsMissing, IsAllApplied};
 
 /// On every state, of every request at the front of a queue. `causes`: it is answered as its entry was exactly where it
@@ -29,4 +30,12 @@ pub fn nothing_is_said_of_nothing<I>()
 /// left, or the write's number would have passed the last one.
 pub fn writes_are_answered<I>()
     ensures { WritesAreAnswered I }
+{}
+
+/// At every event of every node in which the number of the next connection is free, of each connection: behind what was to
+/// go out stand the packets of what was answered at the event, in that order, each once, with the request's number and the
+/// index that the answer shows; what stands between them is an event, the reply to a connect request or the text of a
+/// word. A drain takes all that was to go out. Where there is no connection, or one comes or goes, nothing is answered.
+pub fn packets_are_answers<I>()
+    ensures { PacketsAreAnswers I }
 {}

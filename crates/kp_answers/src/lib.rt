@@ -4,4 +4,6 @@
 
 mod laws;
 
-pub use laws::{fronts_have_causes, nothing_is_said_of_nothing, writes_are_answered};
+pub use laws::{
+    fronts_have_causes, nothing_is_said_of_nothing, packets_are_answers, writes_are_answered,
+};

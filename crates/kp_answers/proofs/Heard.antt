@@ -23,7 +23,7 @@ use Rattle.kp_conn.specs.declared.fed.Fed.{Fed}
 use Rattle.kp_conn.specs.declared.phase.Phase.{Phase}
 use Rattle.kp_conn.specs.declared.phase.Phase.TheVariants as phase
 use Rattle.kp_conn.specs.declared.waiting.Waiting.{Waiting}
-use Rattle.kp_conn.specs.Connection.{Connection, closed, put, is_over}
+use Rattle.kp_conn.specs.Connection.{Connection, closed, put, is_over, is_lost}
 use Rattle.kp_conn.specs.Packets.{connect_packet, reply_packet}
 use Rattle.kp_conn.specs.Queue.{awaited}
 use Rattle.kp_conn.specs.Fed.{fed}
@@ -45,18 +45,18 @@ use Rattle.kp_answers.specs.Whence.{phase_at, next_in}
 
 -- it is as it was but for what goes out, or it was given up
 abbrev pub IsHeard : Connection → Connection → Type 0
-IsHeard c h = ((h.queue ≡ c.queue) × (h.phase ≡ c.phase)) ⊎ ((is_over h.phase ≡ true) × (h.queue ≡ []))
+IsHeard c h = ((h.queue ≡ c.queue) × (h.phase ≡ c.phase) × (h.kept ≡ c.kept)) ⊎ ((is_over h.phase ≡ true) × (h.queue ≡ []) × (is_lost h.phase ≡ true))
 
 given_heard : (n : Option ℕ) (ps : List (List ℕ)) (c : Connection) → IsHeard c (given_out n ps c)
 unfolding given_out
-given_heard n [] c = inl (refl, refl)
-given_heard n (p ∷ ps) c = choose (IsHeard c) (is_out n) (closed true c) (given_out (less n) ps (put p c)) (inr (refl, refl)) (given_heard (less n) ps (put p c))
+given_heard n [] c = inl (refl, refl, refl)
+given_heard n (p ∷ ps) c = choose (IsHeard c) (is_out n) (closed true c) (given_out (less n) ps (put p c)) (inr (refl, refl, refl)) (given_heard (less n) ps (put p c))
 
 abbrev HearsIt : Connection → Settled → Type 0
 HearsIt c r = (r.told ≡ []) × IsHeard c r.connection
 
 pub hears_it : (ch : Choices) (pairs : List (ℕ × Event)) (k : ℕ) (c : Connection) → HearsIt c (hears ch pairs k c)
-hears_it ch pairs k c = choose (HearsIt c) (is_over c.phase) (stays c) (stays (given_out (ch.luck k).events (packets_for k pairs) c)) (refl, inl (refl, refl)) (refl, given_heard (ch.luck k).events (packets_for k pairs) c)
+hears_it ch pairs k c = choose (HearsIt c) (is_over c.phase) (stays c) (stays (given_out (ch.luck k).events (packets_for k pairs) c)) (refl, inl (refl, refl, refl)) (refl, given_heard (ch.luck k).events (packets_for k pairs) c)
 
 -- ---- a newcomer waited before the event too
 

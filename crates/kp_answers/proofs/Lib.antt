@@ -7,3 +7,4 @@ pub mod Whences
 pub mod Heard
 pub mod WhenceSteps
 pub mod Packets
+pub mod Wholes

@@ -2,6 +2,7 @@
 
 ghost use Rattle.kp_answers.specs.Fronts.{FrontsHaveCauses, FrontsAreAnswered};
 ghost use Rattle.kp_answers.specs.Whence.{WritesAreAnswered};
+ghost use Rattle.kp_answers.specs.Refused.{RefusalsAreWhole};
 ghost use Rattle.kp_answers.specs.Sent.{PacketsAreAnswers};
 ghost use Rattle.kp_answers.specs.Says.{SaidTo, IsUnknown, IsMissing, IsAllApplied};
 
@@ -38,4 +39,12 @@ pub fn writes_are_answered<I>()
 /// word. A drain takes all that was to go out. Where there is no connection, or one comes or goes, nothing is answered.
 pub fn packets_are_answers<I>()
     ensures { PacketsAreAnswers I }
+{}
+
+/// At every event of every node, of each connection that serves a session: where the entry that is applied takes the
+/// session over for another connection, where it is the session's expiry, and where the term rises while something waits,
+/// the connection is over, and each request that waited was answered -118, -112 or -4, in their order; or the connection
+/// was given up for want of memory.
+pub fn refusals_are_whole<I>()
+    ensures { RefusalsAreWhole I }
 {}

@@ -134,8 +134,8 @@ module _ (text : List ℕ → List ℕ) where
       tells_one k c (told_by c.phase s.applied w.request a.reply a.cause) (answer_packets s.applied w.request a) b (if is_end w then settled_so (closed false b) a.watches else more) refl (carry_answer (told_by c.phase s.applied w.request a.reply a.cause) a.events)
       (choose (RowSends k b) (is_end w) (settled_so (closed false b) a.watches) more (same_out k b (closed false b) refl) (settle_sends s k (less n) a.watches b q)))
 
-  opens : (k : ℕ) (c : Connection) (r : ConnectReply) (epoch : ℕ) → ((r.session == 0) ≡ true → Unit {0}) → Sends k c [] (opened r epoch c)
-  opens k c r epoch h = choose (Sends k c []) (r.session == 0) _ _ (connect_packet r ∷ [], refl, (inr (inl (r, refl)), tt)) (connect_packet r ∷ [], refl, (inr (inl (r, refl)), tt))
+  opens : (k : ℕ) (c : Connection) (r : ConnectReply) (epoch : ℕ) → is_over c.phase ≡ false → ((r.session == 0) ≡ true → Unit {0}) → Sends k c [] (opened r epoch c)
+  opens k c r epoch o h = choose (Sends k c []) (r.session == 0) _ _ (connect_packet r ∷ [], refl, (inr (inl (r, refl)), tt)) (connect_packet r ∷ [], refl, (inr (inl (r, refl)), tt))
 
   pub sends : Acts Sends (λ k. Unit {0}) (λ k. Unit {0}) (λ k q. Unit {0}) Text
   sends = record {
@@ -143,10 +143,10 @@ module _ (text : List ℕ → List ℕ) where
     behind = behind;
     takes = λ k c bytes. same_out k c (fed c bytes).0 (fed_out c bytes);
     joins = λ k g c d q l f h a. same_out k c (joined_one g c d q).connection (one_out g c d q);
-    loses = λ k c. same_out k c (closed true c) refl;
+    loses = λ k c l. same_out k c (closed true c) refl;
     settles = λ s k n ws c. settle_sends s k n ws c c.queue;
-    closes = λ k c u. same_out k c (closed false c) refl;
-    says = λ k c w t u. (w ∷ [], refl, (inr (inr t), tt));
+    closes = λ k c o u. same_out k c (closed false c) refl;
+    says = λ k c w o t u. (w ∷ [], refl, (inr (inr t), tt));
     opens = opens;
   }
 

@@ -178,8 +178,8 @@ module _ (x : Node) (e : Option LogEntry) (took : ℕ → List Request) (d : Des
       (λ a f. tells_more k (is_end w) (told_by c.phase s.applied w.request a.reply a.cause) (settled_so (closed false (put_answer s.applied w.request a c)) a.watches) _ (front s k c.phase ws w a f h.0) (tt, tt)
       (settles_known s k (less n) a.watches (put_answer s.applied w.request a c) q h.1))
 
-  opens : (k : ℕ) (c : Connection) (r : ConnectReply) (epoch : ℕ) → ((r.session == 0) ≡ true → Unit {0}) → Known k c [] (opened r epoch c)
-  opens k c r epoch h a = choose (λ (z : Connection). AllKnown k z.queue × AllTell k []) (r.session == 0) _ _ (tt, tt) (a, tt)
+  opens : (k : ℕ) (c : Connection) (r : ConnectReply) (epoch : ℕ) → is_over c.phase ≡ false → ((r.session == 0) ≡ true → Unit {0}) → Known k c [] (opened r epoch c)
+  opens k c r epoch o h a = choose (λ (z : Connection). AllKnown k z.queue × AllTell k []) (r.session == 0) _ _ (tt, tt) (a, tt)
 
   pub acts : Acts Known (λ k. Lacks x d (next_in (P0 k)) (took k)) (λ k. Unit {0}) (λ k q. IsAmong q (took k)) (λ w. Unit {0})
   acts = record {
@@ -187,10 +187,10 @@ module _ (x : Node) (e : Option LogEntry) (took : ℕ → List Request) (d : Des
     behind = behind;
     takes = λ k c bytes. same_queue k c (fed c bytes).0 (fed_so c bytes).queue;
     joins = one_joins;
-    loses = λ k c h. (tt, tt);
+    loses = λ k c l h. (tt, tt);
     settles = λ s k n ws c h. settles_known s k n ws c c.queue h;
-    closes = λ k c u h. (tt, tt);
-    says = λ k c w t u h. (tt, tt);
+    closes = λ k c o u h. (tt, tt);
+    says = λ k c w o t u h. (tt, tt);
     opens = opens;
   }
 

@@ -3,3 +3,4 @@ pub mod Says
 pub mod Whence
 pub mod Sent
 pub mod Refused
+pub mod Ended

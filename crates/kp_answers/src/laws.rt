@@ -1,5 +1,6 @@
 //! The laws of what a client is answered. The contract of each function is a law; the function does nothing.
 
+ghost use Rattle.kp_answers.specs.Ended.{EndsAreCaused};
 ghost use Rattle.kp_answers.specs.Fronts.{FrontsHaveCauses, FrontsAreAnswered};
 ghost use Rattle.kp_answers.specs.Whence.{WritesAreAnswered};
 ghost use Rattle.kp_answers.specs.Refused.{RefusalsAreWhole};
@@ -47,4 +48,14 @@ pub fn packets_are_answers<I>()
 /// was given up for want of memory.
 pub fn refusals_are_whole<I>()
     ensures { RefusalsAreWhole I }
+{}
+
+/// At every event of every node in which of a connection that is over nothing waits, as in every run: a connection that
+/// wasn't over is gone only by its hangup, and is over only where it was given up for want of memory, the end of its
+/// session was answered, or one of these is there: of bytes a frame that is none, a word, a connect request that is
+/// refused or for which no leader is known; of an entry that its session was taken over or expired, or that the entry for
+/// which it waited gave it no session, or a frame that is none in what it kept meanwhile; of a message or a timeout that
+/// the term rose or an image was taken.
+pub fn ends_are_caused<I>()
+    ensures { EndsAreCaused I }
 {}

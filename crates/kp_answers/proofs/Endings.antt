@@ -1,7 +1,7 @@
 -- Why a connection ends.
 use Rattle.std.proofs.Common.{◌≡◌, ℕ, Bool, true, false, cond, ◌&&◌, ◌||◌, not, inl, inr, List, [], ◌∷◌, ◌++◌, length, Option, Some, None, is_some, refl, ap, sym, subst, ◌∙◌}
 use Rattle.std.proofs.lemmas.Cmp.{nat_cmp_total}
-use Rattle.std.specs.Prelude.{if◌then◌else◌, ◌==◌, ◌⊎◌, nat_lt}
+use Rattle.std.specs.Prelude.{◌==◌, ◌⊎◌, nat_lt}
 use Rattle.std.specs.Ordering.{nat_cmp, eq_by_cmp}
 use Rattle.std.specs.FinMap as map
 use Rattle.kp_model.specs.declared.entry.Body.{Body}
@@ -20,11 +20,9 @@ use Rattle.kp_event.specs.declared.event.NodeEvent.{NodeEvent}
 use Rattle.kp_event.specs.declared.event.NodeEventKind.{NodeEventKind}
 use Rattle.kp_event.specs.declared.event.NodeEventKind.TheVariants as kind
 use Rattle.kp_wire.specs.declared.connect.ConnectReply.{ConnectReply}
-use Rattle.kp_wire.specs.declared.request.Request.{Request}
 use Rattle.kp_wire.specs.declared.reply.WireReply.TheVariants as sent
 use Rattle.kp_watch.specs.declared.watch.Watch.{Watch}
 use Rattle.kp_watch.specs.Watching.{fired}
-use Rattle.kp_conn.specs.declared.fed.FedEnd.TheVariants as ends
 use Rattle.kp_conn.specs.declared.phase.Phase.{Phase}
 use Rattle.kp_conn.specs.declared.phase.Phase.TheVariants as phase
 use Rattle.kp_conn.specs.declared.waiting.Waiting.{Waiting}
@@ -34,15 +32,15 @@ use Rattle.kp_conn.specs.Queue.{awaited, is_close}
 use Rattle.kp_conn.specs.Fed.{fed, fed_as}
 use Rattle.kp_step.specs.declared.seat.Seat.{Seat}
 use Rattle.kp_step.specs.Choices.{Choices, is_out, less}
-use Rattle.kp_step.specs.Node.{Node, Seats, Images}
-use Rattle.kp_step.specs.Answers.{Answer, Cause, by_term, by_move, by_end, code_of, answer_of}
+use Rattle.kp_step.specs.Node.{Node, Images}
+use Rattle.kp_step.specs.Answers.{Cause, by_term, by_move, by_end, code_of, answer_of}
 use Rattle.kp_step.specs.Settling.{Told, Settled, settled, settled_so, with_queue, put_answer, is_end, telling, told_by, session_in, refused, refused_if, stays}
 use Rattle.kp_step.specs.Handing.{Joined, joined_one}
 use Rattle.kp_step.specs.Tables.{seated}
 use Rattle.kp_step.specs.Applying.{upcoming}
-use Rattle.kp_step.specs.Committing.{hears, is_of, is_in, replied_in, replied_to, attached_to, applied_to, meaning, committed}
+use Rattle.kp_step.specs.Committing.{hears, is_of, is_in, replied_in, replied_to, attached_to, applied_to, meaning}
 use Rattle.kp_step.specs.Asking.{Words, reacted, installed, asked}
-use Rattle.kp_step.specs.Step.{Turn, accept_turn, hangup_turn, client_turn, drain_turn, commit_turn, raft_table, risen_as, risen, ended, rose, turned, applies, together, step}
+use Rattle.kp_step.specs.Step.{Turn, client_turn, drain_turn, commit_turn, raft_table, risen_as, ended, rose, turned, together, step}
 use Rattle.kp_step.specs.Causes.{takes_away, expires}
 use Rattle.kp_step.proofs.Tables.{no, tied, get-insert}
 use Rattle.kp_step.proofs.Moving.{is_live}
@@ -50,7 +48,7 @@ use Rattle.kp_step.proofs.Settles.{by_answer}
 use Rattle.kp_step.proofs.Serves.{choose, fed_so}
 use Rattle.kp_answers.specs.Whence.{phase_at}
 use Rattle.kp_answers.specs.Refused.{served_by}
-use Rattle.kp_answers.specs.Ended.{fed_at, EndsByBytes, is_waiting, kept_at, EndsByGreeting, EndsByEntry, EndsBy, has_end, hangs_up, EndAt, IsEndCaused, AllShutIsEmpty, EndsAreCaused}
+use Rattle.kp_answers.specs.Ended.{fed_at, EndsByBytes, is_waiting, EndsByEntry, EndsBy, has_end, hangs_up, EndAt, AllShutIsEmpty, EndsAreCaused}
 use Rattle.kp_answers.proofs.Walk.{Acts, Allowed, one_goes, pick}
 use Rattle.kp_answers.proofs.Places.{At, client_goes, commit_goes, raft_goes}
 use Rattle.kp_answers.proofs.Heard as heard

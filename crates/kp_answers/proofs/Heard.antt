@@ -1,8 +1,7 @@
 -- What the events of an entry do to a connection before it learns what the entry means, and what a newcomer stands on.
-use Rattle.std.proofs.Common.{◌≡◌, ℕ, Bool, true, false, cond, ◌&&◌, ◌||◌, not, inl, inr, List, [], ◌∷◌, ◌++◌, length, Option, Some, None, is_some, refl, ap, sym, subst, ◌∙◌}
+use Rattle.std.proofs.Common.{◌≡◌, ℕ, Bool, true, false, cond, ◌&&◌, not, inl, inr, List, [], ◌∷◌, ◌++◌, Option, Some, None, refl, ap, sym, ◌∙◌}
 use Rattle.std.specs.Prelude.{if◌then◌else◌, ◌==◌, ◌⊎◌}
 use Rattle.std.specs.Cmp.{eq_by_cmp_equiv, nat_cmp_total}
-use Rattle.std.specs.Ordering.{nat_cmp, eq_by_cmp}
 use Rattle.std.specs.Option.{option_map}
 use Rattle.std.specs.FinMap as map
 use Rattle.kp_model.specs.declared.entry.Body.{Body}
@@ -30,14 +29,14 @@ use Rattle.kp_conn.specs.Fed.{fed}
 use Rattle.kp_wire.specs.declared.reply.WireReply.TheVariants as sent
 use Rattle.kp_step.specs.declared.seat.Seat.{Seat}
 use Rattle.kp_step.specs.Choices.{Choices, Luck, is_out, less}
-use Rattle.kp_step.specs.Node.{Node, Seats}
+use Rattle.kp_step.specs.Node.{Node}
 use Rattle.kp_step.specs.Answers.{Cause, code_of, by_end, by_move}
-use Rattle.kp_step.specs.Settling.{Told, Settled, settled_so, telling, told_by, refused, refused_if, stays, given_out}
+use Rattle.kp_step.specs.Settling.{Settled, settled_so, telling, told_by, refused, refused_if, stays, given_out}
 use Rattle.kp_step.specs.Handing.{Ground, Desk, Joined, Served, joined_all, served, served_as, serves, ground, desk, greeting, welcomed, greeted_as}
-use Rattle.kp_step.specs.Tables.{Table, more_at, row_at, tabled, with_row, with_served, seated, settled_in, settled_one, settled_all}
-use Rattle.kp_step.specs.Committing.{packets_for, hears, is_of, is_in, replied_in, replied_to, attached_to, applied_to, meaning, newcomer, session_of, session_at, number_in, Greeting, greeted_in, greeted_at, greeted_by, greeted, informed, committed}
+use Rattle.kp_step.specs.Tables.{Table, more_at, row_at, with_row, with_served, seated, settled_in, settled_one, settled_all}
+use Rattle.kp_step.specs.Committing.{packets_for, hears, is_of, is_in, replied_in, attached_to, applied_to, meaning, newcomer, session_of, session_at, number_in, Greeting, greeted_in, greeted_at, greeted_by, greeted, informed, committed}
 use Rattle.kp_step.specs.Asking.{Words, fed_end, client_served}
-use Rattle.kp_step.specs.Step.{turn, client_turn, client_table, fed_turn}
+use Rattle.kp_step.specs.Step.{client_turn, fed_turn}
 use Rattle.kp_step.proofs.Tables.{no, not_some, get-mapped}
 use Rattle.kp_step.proofs.Moving.{is_live}
 use Rattle.kp_step.proofs.Serves.{choose}

@@ -9,3 +9,4 @@ pub mod WhenceSteps
 pub mod Packets
 pub mod Wholes
 pub mod Endings
+pub mod Asked

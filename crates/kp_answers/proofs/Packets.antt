@@ -1,7 +1,7 @@
 -- What goes out is what was answered.
 use Rattle.std.proofs.Common.{◌≡◌, ℕ, Bool, true, false, cond, ◌&&◌, not, inl, inr, List, [], ◌∷◌, ◌++◌, length, Option, Some, None, is_some, refl, ap, sym, subst, ◌∙◌, append-nil, append_assoc}
 use Rattle.std.proofs.lemmas.Cmp.{nat_cmp_total}
-use Rattle.std.specs.Prelude.{if◌then◌else◌, ◌==◌, ◌⊎◌, map, nat_lt, nat_le}
+use Rattle.std.specs.Prelude.{if◌then◌else◌, ◌==◌, map, nat_lt, nat_le}
 use Rattle.std.specs.Ordering.{nat_cmp, eq_by_cmp}
 use Rattle.std.specs.FinMap as map
 use Rattle.kp_model.specs.declared.command.Cmd.{Cmd}
@@ -37,17 +37,16 @@ use Rattle.kp_conn.specs.Queue.{awaited}
 use Rattle.kp_conn.specs.Fed.{fed, fed_as, fed_first, with_piece}
 use Rattle.kp_step.specs.declared.seat.Seat.{Seat}
 use Rattle.kp_step.specs.Choices.{Choices, is_out, less}
-use Rattle.kp_step.specs.Node.{Node, Seats, Images}
-use Rattle.kp_step.specs.Answers.{Answer, Cause, by_term, by_move, by_end, code_of, answer_of}
+use Rattle.kp_step.specs.Node.{Node, Images}
+use Rattle.kp_step.specs.Answers.{Cause, by_term, by_move, by_end, code_of, answer_of}
 use Rattle.kp_step.specs.Settling.{Told, Settled, settled, settled_so, with_queue, put_answer, answer_packets, is_end, telling, told_by, session_in, refused, refused_if, stays, given_out}
 use Rattle.kp_step.specs.Handing.{Ground, Desk, Joined, is_led, joined_write, joined_as, joined_one}
 use Rattle.kp_step.specs.Tables.{seated}
 use Rattle.kp_step.specs.Applying.{upcoming}
-use Rattle.kp_step.specs.Committing.{packets_for, hears, is_of, is_in, replied_in, replied_to, attached_to, applied_to, meaning, committed}
+use Rattle.kp_step.specs.Committing.{packets_for, hears, is_of, is_in, replied_in, replied_to, attached_to, applied_to, meaning}
 use Rattle.kp_step.specs.Asking.{Words, reacted, installed, asked}
-use Rattle.kp_step.specs.Step.{Turn, accept_turn, hangup_turn, client_turn, drain_turn, commit_turn, raft_table, risen_as, risen, ended, rose, turned, applies, together, step}
+use Rattle.kp_step.specs.Step.{Turn, accept_turn, hangup_turn, client_turn, drain_turn, commit_turn, raft_table, risen_as, risen, ended, turned, together, step}
 use Rattle.kp_step.proofs.Tables.{no, tied, get-insert}
-use Rattle.kp_step.proofs.Moving.{is_live}
 use Rattle.kp_step.proofs.Settles.{by_answer}
 use Rattle.kp_step.proofs.Serves.{choose}
 use Rattle.kp_answers.specs.Sent.{packet_of, IsOther, Carry, left_of, IsSent, PacketsAreAnswers}

@@ -1,11 +1,9 @@
 -- What holds of every act holds at each place of a node's connections, at each event.
-use Rattle.std.proofs.Common.{◌≡◌, ℕ, Bool, true, false, cond, ◌&&◌, ◌||◌, not, List, [], ◌∷◌, ◌++◌, length, Option, Some, None, is_some, refl, ap, sym, subst, ◌∙◌, append-nil}
-use Rattle.std.specs.Prelude.{if◌then◌else◌, ◌==◌}
+use Rattle.std.proofs.Common.{◌≡◌, ℕ, Bool, true, false, cond, List, [], ◌∷◌, ◌++◌, Option, Some, None, is_some, refl, ap, sym, subst, ◌∙◌}
+use Rattle.std.specs.Prelude.{if◌then◌else◌}
 use Rattle.std.specs.Option.{option_map}
 use Rattle.std.specs.Ordering.{nat_cmp, eq_by_cmp}
 use Rattle.std.specs.FinMap as map
-use Rattle.kp_model.specs.declared.entry.Body.{Body}
-use Rattle.kp_model.specs.declared.reply.Reply.{Reply}
 use Rattle.kp_model.specs.LogEntry.{LogEntry}
 use Rattle.kp_model.specs.State.{State}
 use Rattle.kp_model.specs.Step.{Outcome, apply}
@@ -22,14 +20,13 @@ use Rattle.kp_step.specs.declared.seat.Seat.{Seat}
 use Rattle.kp_step.specs.Choices.{Choices}
 use Rattle.kp_step.specs.Node.{Node, Seats}
 use Rattle.kp_step.specs.Settling.{Told, Settled, settled}
-use Rattle.kp_step.specs.Handing.{Ground, Desk, Served, joined_all, serves, greeted_as, ground, desk}
+use Rattle.kp_step.specs.Handing.{Served, joined_all, greeted_as, ground, desk}
 use Rattle.kp_step.specs.Tables.{Table, Row, mapped, row_at, row_told, with_row, tabled, more_at, seated, with_served, settled_in, settled_one, settled_all}
 use Rattle.kp_step.specs.Committing.{hears, meaning, newcomer, session_of, session_at, number_in, greeted_in, greeted_at, greeted_by, greeted, informed, committed}
 use Rattle.kp_step.specs.Asking.{Words, fed_end, client_served}
-use Rattle.kp_step.specs.Step.{Turn, client_turn, client_table, fed_turn, commit_turn, risen, ended, rose, with_row_if, raft_table}
-use Rattle.kp_step.proofs.Tables.{no, tied, get-insert, get-mapped}
+use Rattle.kp_step.specs.Step.{Turn, client_turn, fed_turn, risen, ended, rose, with_row_if, raft_table}
+use Rattle.kp_step.proofs.Tables.{tied, get-insert, get-mapped}
 use Rattle.kp_step.proofs.Moving.{is_live}
-use Rattle.kp_step.proofs.Serves.{choose}
 use Rattle.kp_answers.specs.Whence.{next_in}
 use Rattle.kp_answers.proofs.Walk.{Allowed, Acts, Serving, Feeds, Greets, feed, greet}
 

@@ -1,10 +1,7 @@
 -- What a step does to each connection, act by act: what holds of every act holds of the step.
-use Rattle.std.proofs.Common.{◌≡◌, ℕ, suc, ◌+◌, ◌≤◌, Bool, true, false, cond, ◌&&◌, ◌||◌, not, inl, inr, List, [], ◌∷◌, ◌++◌, length, Option, Some, None, is_some, refl, ap, sym, subst, ◌∙◌, append-nil, arith}
+use Rattle.std.proofs.Common.{◌≡◌, ℕ, ◌+◌, ◌≤◌, Bool, true, false, ◌&&◌, ◌||◌, not, inl, inr, List, [], ◌∷◌, ◌++◌, length, Option, Some, None, is_some, refl, sym, subst, ◌∙◌, append-nil, arith}
 use Rattle.std.proofs.lemmas.Bool.Decides.{nat_tests}
 use Rattle.std.specs.Prelude.{if◌then◌else◌, ◌==◌, nat_lt, nat_le}
-use Rattle.std.specs.Option.{option_map}
-use Rattle.std.specs.Ordering.{nat_cmp, eq_by_cmp}
-use Rattle.std.specs.FinMap as map
 use Rattle.kp_model.specs.declared.command.Cmd.{Cmd}
 use Rattle.kp_model.specs.declared.entry.Body.{Body}
 use Rattle.kp_model.specs.declared.session.Session.{Session}
@@ -24,13 +21,10 @@ use Rattle.kp_conn.specs.declared.phase.Phase.TheVariants as phase
 use Rattle.kp_conn.specs.Connection.{Connection, closed, numbered as renumbered, put, opened, is_over}
 use Rattle.kp_conn.specs.Packets.{connect_packet}
 use Rattle.kp_conn.specs.Fed.{fed, fed_as}
-use Rattle.kp_step.specs.declared.seat.Seat.{Seat}
-use Rattle.kp_step.specs.Choices.{Choices, Luck, is_out, less}
-use Rattle.kp_step.specs.Node.{Seats}
-use Rattle.kp_step.specs.Settling.{Told, Settled, settled}
-use Rattle.kp_step.specs.Handing.{Ground, Desk, Joined, Served, proposed, handed, is_led, joined_so, joined_write, joined_as, joined_one, joined_all, taking, served, ended_by, is_refused, refusal, connects, first_served, served_as, serves, greeting, welcomed, greeted_as}
-use Rattle.kp_step.specs.Tables.{Table, Row, row_at, row_told, with_row, tabled, more_at, seated, with_served, settled_in, settled_one, settled_all}
-use Rattle.kp_step.proofs.Tables.{no, tied, get-insert, get-mapped}
+use Rattle.kp_step.specs.Choices.{Luck, is_out, less}
+use Rattle.kp_step.specs.Settling.{Told, settled}
+use Rattle.kp_step.specs.Handing.{Ground, Desk, Joined, Served, proposed, handed, is_led, joined_so, joined_write, joined_as, joined_one, joined_all, taking, served, ended_by, is_refused, refusal, first_served, served_as, serves, greeting, welcomed, greeted_as}
+use Rattle.kp_step.proofs.Tables.{no}
 use Rattle.kp_step.proofs.Moving.{is_live}
 use Rattle.kp_step.proofs.Serves.{choose, fed_so}
 use Rattle.kp_answers.specs.Whence.{IsAmong, next_in}

@@ -1,51 +1,38 @@
 -- Where an answer to a write comes from.
-use Rattle.std.proofs.Common.{◌≡◌, ℕ, suc, ◌+◌, Bool, true, false, cond, ◌&&◌, ◌||◌, not, inl, inr, List, [], ◌∷◌, ◌++◌, length, slice_get, slice_set, Option, Some, None, is_some, refl, ap, sym, subst, ◌∙◌, arith}
+use Rattle.std.proofs.Common.{◌≡◌, ℕ, Bool, true, false, ◌&&◌, inl, inr, List, [], ◌∷◌, ◌++◌, length, Option, Some, None, is_some, refl, ap, sym, subst, ◌∙◌, arith}
 use Rattle.std.proofs.lemmas.Bool.Decides.{nat_tests}
 use Rattle.std.specs.Prelude.{if◌then◌else◌, ◌==◌, ◌⊎◌, nat_lt, nat_le}
 use Rattle.std.specs.List.{AllByRecursion}
 use Rattle.std.specs.FinMap as map
 use Rattle.kp_model.specs.declared.command.Cmd.{Cmd}
-use Rattle.kp_model.specs.declared.entry.Body.{Body}
-use Rattle.kp_model.specs.declared.entry.Body.TheVariants as body
-use Rattle.kp_model.specs.declared.reply.Event.{Event}
-use Rattle.kp_model.specs.declared.reply.Reply.{Reply}
-use Rattle.kp_model.specs.declared.reply.Reply.TheVariants as reply
-use Rattle.kp_model.specs.declared.session.Origin.{Origin}
 use Rattle.kp_model.specs.Limits.{last_number}
 use Rattle.kp_model.specs.LogEntry.{LogEntry}
-use Rattle.kp_model.specs.State.{State, same_origin}
-use Rattle.kp_model.specs.Step.{apply}
-use Rattle.kp_model.specs.Taken.{is_stale}
+use Rattle.kp_model.specs.State.{State}
 use Rattle.kp_ask.specs.Asks.{command}
-use Rattle.kp_ask.specs.Answers.{answer_to}
 use Rattle.kp_wire.specs.declared.connect.ConnectReply.{ConnectReply}
 use Rattle.kp_wire.specs.declared.request.Request.{Request}
 use Rattle.kp_wire.specs.declared.reply.WireReply.{WireReply}
 use Rattle.kp_wire.specs.declared.reply.WireReply.TheVariants as sent
 use Rattle.kp_watch.specs.declared.watch.Watch.{Watch}
-use Rattle.kp_watch.specs.Watching.{fired}
 use Rattle.kp_conn.specs.declared.phase.Phase.{Phase}
 use Rattle.kp_conn.specs.declared.phase.Phase.TheVariants as phase
 use Rattle.kp_conn.specs.declared.waiting.Mark.{Mark}
 use Rattle.kp_conn.specs.declared.waiting.Waiting.{Waiting}
 use Rattle.kp_conn.specs.Connection.{Connection, closed, joined, put, opened, is_over}
 use Rattle.kp_conn.specs.Packets.{reply_packet}
-use Rattle.kp_conn.specs.Queue.{awaited, is_close, place_of, replied, settled_at, settled_queue}
 use Rattle.kp_conn.specs.Fed.{fed}
-use Rattle.kp_step.specs.declared.seat.Seat.{Seat}
 use Rattle.kp_step.specs.Choices.{Choices, is_out, less}
 use Rattle.kp_step.specs.Node.{Node}
-use Rattle.kp_step.specs.Answers.{Answer, Cause, by_state, by_entry, by_lack, by_term, by_move, by_end, code_of, answer_of, answer_by, unmarked, state_answer}
-use Rattle.kp_step.specs.Settling.{Told, Settled, settled, settled_so, with_queue, put_answer, is_end, telling, told_by, session_in, refused, refused_if, stays, given_out}
-use Rattle.kp_step.specs.Handing.{Ground, Desk, Joined, is_led, unnumbered, numbered, joined_so, joined_write, joined_as, joined_one}
-use Rattle.kp_step.specs.Committing.{packets_for, hears, is_of, is_in, replied_in, replied_to, written_to, attached_to, applied_to, meaning}
+use Rattle.kp_step.specs.Answers.{Answer, Cause, by_state, by_term, code_of, answer_of, answer_by, unmarked, state_answer}
+use Rattle.kp_step.specs.Settling.{Told, Settled, settled, settled_so, with_queue, put_answer, is_end, telling, told_by, session_in, refused, refused_if, stays}
+use Rattle.kp_step.specs.Handing.{Ground, Desk, Joined, is_led, unnumbered, numbered, joined_write, joined_as, joined_one}
 use Rattle.kp_step.specs.Step.{risen_as, risen, ended}
 use Rattle.kp_step.proofs.Tables.{no, not_some}
 use Rattle.kp_step.proofs.Moving.{is_live}
 use Rattle.kp_step.proofs.Settles.{by_answer, state_cause}
 use Rattle.kp_step.proofs.Serves.{choose, fed_so}
-use Rattle.kp_answers.specs.Whence.{SomeWaits, IsAmong, queue_at, phase_at, next_in, is_write_of, IsItsReply, Lacks, IsWhence, AreWhence}
-use Rattle.kp_answers.proofs.Queues.{all_push, all_set, some_at, some_map, all_found, numbered_at}
+use Rattle.kp_answers.specs.Whence.{SomeWaits, IsAmong, queue_at, phase_at, next_in, IsItsReply, Lacks, IsWhence}
+use Rattle.kp_answers.proofs.Queues.{all_push, some_map, all_found}
 use Rattle.kp_answers.proofs.Walk.{Acts, pick}
 
 module _ (x : Node) (e : Option LogEntry) (took : ℕ → List Request) (d : Desk) where

@@ -2,10 +2,8 @@
 use Rattle.std.specs.Prelude.{◌≡◌, ◌⊎◌, ◌==◌, ◌||◌, ℕ, Bool, true, false, nat_lt, List, [], ◌∷◌, if◌then◌else◌, Option, Some, None, is_some}
 use Rattle.std.specs.Ordering.{nat_cmp, eq_by_cmp}
 use Rattle.std.specs.FinMap as map
-use Rattle.kp_model.specs.declared.session.Session.{Session}
 use Rattle.kp_model.specs.LogEntry.{LogEntry}
-use Rattle.kp_model.specs.State.{State}
-use Rattle.kp_model.specs.Step.{Outcome, apply}
+use Rattle.kp_model.specs.Step.{apply}
 use Rattle.kp_model.specs.Taken.{is_stale}
 use Rattle.kp_raft.specs.declared.mail.Mail.{Mail}
 use Rattle.kp_event.specs.declared.event.NodeEvent.{NodeEvent}
@@ -13,7 +11,6 @@ use Rattle.kp_event.specs.declared.event.NodeEventKind.{NodeEventKind}
 use Rattle.kp_event.specs.declared.event.NodeEventKind.TheVariants as kind
 use Rattle.kp_wire.specs.declared.connect.ConnectRequest.{ConnectRequest}
 use Rattle.kp_conn.specs.declared.fed.Fed.{Fed}
-use Rattle.kp_conn.specs.declared.fed.FedEnd.{FedEnd}
 use Rattle.kp_conn.specs.declared.fed.FedEnd.TheVariants as ends
 use Rattle.kp_conn.specs.declared.phase.Phase.{Phase}
 use Rattle.kp_conn.specs.declared.phase.Phase.TheVariants as phase
@@ -29,7 +26,7 @@ use Rattle.kp_step.specs.Applying.{upcoming}
 use Rattle.kp_step.specs.Committing.{newcomer, session_of, session_at, number_in}
 use Rattle.kp_step.specs.Asking.{Words}
 use Rattle.kp_step.specs.Step.{Stepped, step}
-use Rattle.kp_step.specs.Causes.{takes_away, expires, applied_is}
+use Rattle.kp_step.specs.Causes.{takes_away, expires}
 use Rattle.kp_answers.specs.Whence.{phase_at}
 use Rattle.kp_answers.specs.Refused.{served_by}
 

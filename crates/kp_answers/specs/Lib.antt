@@ -4,3 +4,4 @@ pub mod Whence
 pub mod Sent
 pub mod Refused
 pub mod Ended
+pub mod Connects

@@ -1,5 +1,6 @@
 //! The laws of what a client is answered. The contract of each function is a law; the function does nothing.
 
+ghost use Rattle.kp_answers.specs.Connects.{RefusedByNumber, ConnectsAreAnswered};
 ghost use Rattle.kp_answers.specs.Ended.{EndsAreCaused};
 ghost use Rattle.kp_answers.specs.Fronts.{FrontsHaveCauses, FrontsAreAnswered};
 ghost use Rattle.kp_answers.specs.Whence.{WritesAreAnswered};
@@ -58,4 +59,13 @@ pub fn refusals_are_whole<I>()
 /// the term rose or an image was taken.
 pub fn ends_are_caused<I>()
     ensures { EndsAreCaused I }
+{}
+
+/// `numbers`: a connect request is refused at once exactly where its session number is below 0 or above 2^62, or is
+/// another than 0 and comes with what is no password of 16 bytes. `answers`: at every event of every node whose bytes end
+/// the connect request of a new connection, one that is refused is told session 0, and its connection is over; where no
+/// leader is known the connection is over without a reply; else it waits, and nothing goes out.
+pub fn connects_are_answered<I>()
+    ensures numbers { RefusedByNumber }
+    ensures answers { ConnectsAreAnswered I }
 {}

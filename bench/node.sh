@@ -15,8 +15,8 @@ best() {
     done | sort -n | head -n 1
 }
 for kind in get set; do
-    rounds=3000
-    if [ $kind = set ]; then rounds=1500; fi
+    rounds=20000
+    if [ $kind = set ]; then rounds=4000; fi
     for connections in 10 10000; do
         start=$(best $kind $connections 0)
         all=$(best $kind $connections $rounds)

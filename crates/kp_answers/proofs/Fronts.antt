@@ -1,5 +1,5 @@
 -- The front of a queue.
-use Rattle.std.proofs.Common.{◌≡◌, ℕ, Bool, true, false, List, Option, Some, None, is_some, refl, ap, sym, subst}
+use Rattle.std.proofs.Common.{◌≡◌, ℕ, List, Option, Some, None, is_some, refl, ap, sym, subst}
 use Rattle.std.specs.Option.{option_map}
 use Rattle.kp_model.specs.declared.command.Cmd.{Cmd}
 use Rattle.kp_model.specs.State.{State}

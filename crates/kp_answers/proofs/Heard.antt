@@ -1,8 +1,7 @@
 -- What the events of an entry do to a connection before it learns what the entry means, and what a newcomer stands on.
-use Rattle.std.proofs.Common.{◌≡◌, ℕ, Bool, true, false, cond, ◌&&◌, ◌||◌, not, inl, inr, List, [], ◌∷◌, ◌++◌, length, Option, Some, None, is_some, refl, ap, sym, subst, ◌∙◌}
+use Rattle.std.proofs.Common.{◌≡◌, ℕ, Bool, true, false, cond, ◌&&◌, not, inl, inr, List, [], ◌∷◌, ◌++◌, Option, Some, None, refl, ap, sym, ◌∙◌}
 use Rattle.std.specs.Prelude.{if◌then◌else◌, ◌==◌, ◌⊎◌}
 use Rattle.std.specs.Cmp.{eq_by_cmp_equiv, nat_cmp_total}
-use Rattle.std.specs.Ordering.{nat_cmp, eq_by_cmp}
 use Rattle.std.specs.Option.{option_map}
 use Rattle.std.specs.FinMap as map
 use Rattle.kp_model.specs.declared.entry.Body.{Body}
@@ -30,18 +29,19 @@ use Rattle.kp_conn.specs.Fed.{fed}
 use Rattle.kp_wire.specs.declared.reply.WireReply.TheVariants as sent
 use Rattle.kp_step.specs.declared.seat.Seat.{Seat}
 use Rattle.kp_step.specs.Choices.{Choices, Luck, is_out, less}
-use Rattle.kp_step.specs.Node.{Node, Seats}
+use Rattle.kp_step.specs.Node.{Node}
 use Rattle.kp_step.specs.Answers.{Cause, code_of, by_end, by_move}
-use Rattle.kp_step.specs.Settling.{Told, Settled, settled_so, telling, told_by, refused, refused_if, stays, given_out}
+use Rattle.kp_step.specs.Settling.{Settled, settled_so, telling, told_by, refused, refused_if, stays, given_out}
 use Rattle.kp_step.specs.Handing.{Ground, Desk, Joined, Served, joined_all, served, served_as, serves, ground, desk, greeting, welcomed, greeted_as}
-use Rattle.kp_step.specs.Tables.{Table, more_at, row_at, tabled, with_row, with_served, seated, settled_in, settled_one, settled_all}
-use Rattle.kp_step.specs.Committing.{packets_for, hears, is_of, is_in, replied_in, replied_to, attached_to, applied_to, meaning, newcomer, session_of, session_at, number_in, Greeting, greeted_in, greeted_at, greeted_by, greeted, informed, committed}
+use Rattle.kp_step.specs.Tables.{Table, more_at, row_at, with_row, with_served, seated, settled_in, settled_one, settled_all}
+use Rattle.kp_step.specs.Committing.{packets_for, hears, is_of, is_in, replied_in, attached_to, applied_to, meaning, newcomer, session_of, session_at, number_in, Greeting, greeted_in, greeted_at, greeted_by, greeted, informed, committed}
 use Rattle.kp_step.specs.Asking.{Words, fed_end, client_served}
-use Rattle.kp_step.specs.Step.{turn, client_turn, client_table, fed_turn}
+use Rattle.kp_step.specs.Step.{client_turn, fed_turn}
 use Rattle.kp_step.proofs.Tables.{no, not_some, get-mapped}
 use Rattle.kp_step.proofs.Moving.{is_live}
 use Rattle.kp_step.proofs.Serves.{choose}
 use Rattle.kp_answers.specs.Whence.{phase_at, next_in}
+use Rattle.kp_answers.specs.Ended.{is_waiting, kept_at}
 
 -- it is as it was but for what goes out, or it was given up
 abbrev pub IsHeard : Connection → Connection → Type 0
@@ -60,12 +60,8 @@ hears_it ch pairs k c = choose (HearsIt c) (is_over c.phase) (stays c) (stays (g
 
 -- ---- a newcomer waited before the event too
 
-abbrev pub is_waiting : Phase → Bool
-is_waiting (phase.Connecting ro) = true
-is_waiting p = false
-
 abbrev Waited : Connection → Settled → Type 0
-Waited c r = is_waiting r.connection.phase ≡ true → is_waiting c.phase ≡ true
+Waited c r = is_waiting r.connection.phase ≡ true → (is_waiting c.phase ≡ true) × (r.connection.kept ≡ c.kept)
 
 over_waits : (p : Phase) → is_over p ≡ true → is_waiting p ≡ true → ⊥
 over_waits phase.Fresh o w = no false refl o
@@ -82,37 +78,41 @@ refused_over n zxid cause c (w ∷ q) = choose (λ (r : Settled). is_over r.conn
 
 refuse_waited : (b : Bool) (n : Option ℕ) (zxid : ℕ) (cause : Cause) (c : Connection) → Waited c (refused_if b n zxid cause c)
 refuse_waited true n zxid cause c w = absurd (over_waits (refused n zxid cause c c.queue).connection.phase (refused_over n zxid cause c c.queue) w)
-refuse_waited false n zxid cause c w = w
+refuse_waited false n zxid cause c w = (w, refl)
 
 reply_phase : (seq : ℕ) (r : Reply) (c : Connection) (o : Option Waiting) → (replied_in seq r c o).phase ≡ c.phase
 reply_phase seq r c None = refl
 reply_phase seq r c (Some w) = refl
 
+reply_kept : (seq : ℕ) (r : Reply) (c : Connection) (o : Option Waiting) → (replied_in seq r c o).kept ≡ c.kept
+reply_kept seq r c None = refl
+reply_kept seq r c (Some w) = refl
+
 attach_waited : (ch : Choices) (zxid : ℕ) (mine o : Origin) (session : ℕ) (r : Reply) (k : ℕ) (c : Connection) → Waited c (attached_to ch zxid mine o session r k c)
 attach_waited ch zxid mine o session (reply.Epoch epoch) k c = refuse_waited (is_of session c.phase && not (same_origin o mine)) (ch.luck k).answers zxid by_move c
-attach_waited ch zxid mine o session reply.Stale k c = λ w. w
-attach_waited ch zxid mine o session (reply.Err code) k c = λ w. w
-attach_waited ch zxid mine o session reply.Done k c = λ w. w
-attach_waited ch zxid mine o session (reply.Session id) k c = λ w. w
-attach_waited ch zxid mine o session (reply.Path path) k c = λ w. w
-attach_waited ch zxid mine o session (reply.PathStat path m) k c = λ w. w
-attach_waited ch zxid mine o session (reply.Stat m) k c = λ w. w
-attach_waited ch zxid mine o session (reply.Multi rs) k c = λ w. w
-attach_waited ch zxid mine o session (reply.Failed codes) k c = λ w. w
+attach_waited ch zxid mine o session reply.Stale k c = λ w. (w, refl)
+attach_waited ch zxid mine o session (reply.Err code) k c = λ w. (w, refl)
+attach_waited ch zxid mine o session reply.Done k c = λ w. (w, refl)
+attach_waited ch zxid mine o session (reply.Session id) k c = λ w. (w, refl)
+attach_waited ch zxid mine o session (reply.Path path) k c = λ w. (w, refl)
+attach_waited ch zxid mine o session (reply.PathStat path m) k c = λ w. (w, refl)
+attach_waited ch zxid mine o session (reply.Stat m) k c = λ w. (w, refl)
+attach_waited ch zxid mine o session (reply.Multi rs) k c = λ w. (w, refl)
+attach_waited ch zxid mine o session (reply.Failed codes) k c = λ w. (w, refl)
 
 applied_waited : (ch : Choices) (me boot zxid : ℕ) (b : Body) (r : Reply) (k : ℕ) (c : Connection) → Waited c (applied_to ch me boot zxid b r k c)
-applied_waited ch me boot zxid body.Noop r k c = λ w. w
-applied_waited ch me boot zxid (body.OpenSession timeout passwd o) r k c = λ w. w
+applied_waited ch me boot zxid body.Noop r k c = λ w. (w, refl)
+applied_waited ch me boot zxid (body.OpenSession timeout passwd o) r k c = λ w. (w, refl)
 applied_waited ch me boot zxid (body.Attach session passwd o) r k c = attach_waited ch zxid _ o session r k c
 applied_waited ch me boot zxid (body.Expire session) r k c = refuse_waited (is_of session c.phase) (ch.luck k).answers zxid by_end c
-applied_waited ch me boot zxid (body.Write session epoch seq q) r k c = choose (Waited c) (is_in session epoch c.phase) _ _ (λ w. sym (ap is_waiting (reply_phase seq r c (awaited seq c.queue))) ∙ w) (λ w. w)
+applied_waited ch me boot zxid (body.Write session epoch seq q) r k c = choose (Waited c) (is_in session epoch c.phase) _ _ (λ w. (sym (ap is_waiting (reply_phase seq r c (awaited seq c.queue))) ∙ w, reply_kept seq r c (awaited seq c.queue))) (λ w. (w, refl))
 
 meaning_waited : (ch : Choices) (me boot zxid : ℕ) (b : Body) (r : Reply) (k : ℕ) (c : Connection) → Waited c (meaning ch me boot zxid b r k c)
 unfolding meaning
-meaning_waited ch me boot zxid b r k c = choose (Waited c) (is_stale r) (stays c) (applied_to ch me boot zxid b r k c) (λ w. w) (applied_waited ch me boot zxid b r k c)
+meaning_waited ch me boot zxid b r k c = choose (Waited c) (is_stale r) (stays c) (applied_to ch me boot zxid b r k c) (λ w. (w, refl)) (applied_waited ch me boot zxid b r k c)
 
-heard_waited : (c h : Connection) → IsHeard c h → is_waiting h.phase ≡ true → is_waiting c.phase ≡ true
-heard_waited c h (inl s) w = sym (ap is_waiting s.1) ∙ w
+heard_waited : (c h : Connection) → IsHeard c h → is_waiting h.phase ≡ true → (is_waiting c.phase ≡ true) × (h.kept ≡ c.kept)
+heard_waited c h (inl s) w = (sym (ap is_waiting s.1) ∙ w, s.2)
 heard_waited c h (inr o) w = absurd (over_waits h.phase o.0 w)
 
 waiting_next : (p : Phase) → is_waiting p ≡ true → next_in p ≡ 1
@@ -126,27 +126,29 @@ module _ (ch : Choices) (x : Node) (now : ℕ) (e : LogEntry) where
   Out_ = apply x.state e
 
   abbrev WaitedAt : Option Seat → Option Seat → Type 0
-  WaitedAt o n = (y : Seat) → n ≡ Some y → is_waiting y.connection.phase ≡ true → is_waiting (phase_at o) ≡ true
+  WaitedAt o n = (y : Seat) → n ≡ Some y → is_waiting y.connection.phase ≡ true → (is_waiting (phase_at o) ≡ true) × (y.connection.kept ≡ kept_at o)
+
+  seat_or : Seat → Option Seat → Seat
+  seat_or z None = z
+  seat_or z (Some y) = y
 
   waited_at : (k : ℕ) (o : Option Seat) → WaitedAt o (option_map (row_at (meaning ch x.me x.boot Out_.state.applied e.body Out_.reply) k) (option_map (row_at (hears ch (fired x.watches Out_.events).pairs) k) o))
+  unfolding seat_or
   waited_at k None y h w = absurd (not_some (sym h))
   waited_at k (Some s) y h w = let heard = hears ch (fired x.watches Out_.events).pairs k s.connection in
-      heard_waited s.connection heard.connection (hears_it ch (fired x.watches Out_.events).pairs k s.connection).1
-      (meaning_waited ch x.me x.boot Out_.state.applied e.body Out_.reply k heard.connection (waits_of h w)) where
-        phase_of : Option Seat → Phase
-        phase_of None = phase.Fresh
-        phase_of (Some z) = z.connection.phase
+      let z : Seat = seated s (meaning ch x.me x.boot Out_.state.applied e.body Out_.reply k heard.connection).connection in
+      let same : z ≡ y = ap (seat_or z) h in
+      let m = meaning_waited ch x.me x.boot Out_.state.applied e.body Out_.reply k heard.connection (ap (λ (u : Seat). is_waiting u.connection.phase) same ∙ w) in
+      let g = heard_waited s.connection heard.connection (hears_it ch (fired x.watches Out_.events).pairs k s.connection).1 m.0 in
+      (g.0, ap (λ (u : Seat). u.connection.kept) (sym same) ∙ m.1 ∙ g.1)
 
-        waits_of : {z y : Seat} → Some z ≡ Some y → is_waiting y.connection.phase ≡ true → is_waiting z.connection.phase ≡ true
-        waits_of h w = ap (λ o. is_waiting (phase_of o)) h ∙ w
-
-  -- one that waits behind the meaning of an entry waited before the event
-  pub newcomer_waited : (k : ℕ) (y : Seat) → map.get (informed ch x e.body Out_).seats k ≡ Some y → is_waiting y.connection.phase ≡ true → is_waiting (phase_at (map.get x.seats k)) ≡ true
+  -- one that waits behind the meaning of an entry waited before the event, and has kept what it kept then
+  pub newcomer_waited : (k : ℕ) (y : Seat) → map.get (informed ch x e.body Out_).seats k ≡ Some y → is_waiting y.connection.phase ≡ true → (is_waiting (phase_at (map.get x.seats k)) ≡ true) × (y.connection.kept ≡ kept_at (map.get x.seats k))
   unfolding informed with_row
   newcomer_waited k y h w = waited_at k (map.get x.seats k) y (sym (get-mapped (row_at (meaning ch x.me x.boot Out_.state.applied e.body Out_.reply)) _ k ∙ ap (option_map (row_at (meaning ch x.me x.boot Out_.state.applied e.body Out_.reply) k)) (get-mapped (row_at (hears ch (fired x.watches Out_.events).pairs)) x.seats k)) ∙ h) w
 
   pub newcomer_next : (k : ℕ) (y : Seat) (ro : Bool) → map.get (informed ch x e.body Out_).seats k ≡ Some y → y.connection.phase ≡ phase.Connecting ro → next_in (phase_at (map.get x.seats k)) ≡ 1
-  newcomer_next k y ro h p = waiting_next (phase_at (map.get x.seats k)) (newcomer_waited k y h (ap is_waiting p))
+  newcomer_next k y ro h p = waiting_next (phase_at (map.get x.seats k)) (newcomer_waited k y h (ap is_waiting p)).0
 
   -- ---- what a newcomer handed in, and which of its requests joined
 

@@ -8,3 +8,5 @@ pub mod Heard
 pub mod WhenceSteps
 pub mod Packets
 pub mod Wholes
+pub mod Endings
+pub mod Asked

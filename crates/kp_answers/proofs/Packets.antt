@@ -1,7 +1,7 @@
 -- What goes out is what was answered.
 use Rattle.std.proofs.Common.{◌≡◌, ℕ, Bool, true, false, cond, ◌&&◌, not, inl, inr, List, [], ◌∷◌, ◌++◌, length, Option, Some, None, is_some, refl, ap, sym, subst, ◌∙◌, append-nil, append_assoc}
 use Rattle.std.proofs.lemmas.Cmp.{nat_cmp_total}
-use Rattle.std.specs.Prelude.{if◌then◌else◌, ◌==◌, ◌⊎◌, map, nat_lt, nat_le}
+use Rattle.std.specs.Prelude.{if◌then◌else◌, ◌==◌, map, nat_lt, nat_le}
 use Rattle.std.specs.Ordering.{nat_cmp, eq_by_cmp}
 use Rattle.std.specs.FinMap as map
 use Rattle.kp_model.specs.declared.command.Cmd.{Cmd}
@@ -37,17 +37,16 @@ use Rattle.kp_conn.specs.Queue.{awaited}
 use Rattle.kp_conn.specs.Fed.{fed, fed_as, fed_first, with_piece}
 use Rattle.kp_step.specs.declared.seat.Seat.{Seat}
 use Rattle.kp_step.specs.Choices.{Choices, is_out, less}
-use Rattle.kp_step.specs.Node.{Node, Seats, Images}
-use Rattle.kp_step.specs.Answers.{Answer, Cause, by_term, by_move, by_end, code_of, answer_of}
+use Rattle.kp_step.specs.Node.{Node, Images}
+use Rattle.kp_step.specs.Answers.{Cause, by_term, by_move, by_end, code_of, answer_of}
 use Rattle.kp_step.specs.Settling.{Told, Settled, settled, settled_so, with_queue, put_answer, answer_packets, is_end, telling, told_by, session_in, refused, refused_if, stays, given_out}
 use Rattle.kp_step.specs.Handing.{Ground, Desk, Joined, is_led, joined_write, joined_as, joined_one}
 use Rattle.kp_step.specs.Tables.{seated}
 use Rattle.kp_step.specs.Applying.{upcoming}
-use Rattle.kp_step.specs.Committing.{packets_for, hears, is_of, is_in, replied_in, replied_to, attached_to, applied_to, meaning, committed}
+use Rattle.kp_step.specs.Committing.{packets_for, hears, is_of, is_in, replied_in, replied_to, attached_to, applied_to, meaning}
 use Rattle.kp_step.specs.Asking.{Words, reacted, installed, asked}
-use Rattle.kp_step.specs.Step.{Turn, accept_turn, hangup_turn, client_turn, drain_turn, commit_turn, raft_table, risen_as, risen, ended, rose, turned, applies, together, step}
+use Rattle.kp_step.specs.Step.{Turn, accept_turn, hangup_turn, client_turn, drain_turn, commit_turn, raft_table, risen_as, risen, ended, turned, together, step}
 use Rattle.kp_step.proofs.Tables.{no, tied, get-insert}
-use Rattle.kp_step.proofs.Moving.{is_live}
 use Rattle.kp_step.proofs.Settles.{by_answer}
 use Rattle.kp_step.proofs.Serves.{choose}
 use Rattle.kp_answers.specs.Sent.{packet_of, IsOther, Carry, left_of, IsSent, PacketsAreAnswers}
@@ -134,8 +133,8 @@ module _ (text : List ℕ → List ℕ) where
       tells_one k c (told_by c.phase s.applied w.request a.reply a.cause) (answer_packets s.applied w.request a) b (if is_end w then settled_so (closed false b) a.watches else more) refl (carry_answer (told_by c.phase s.applied w.request a.reply a.cause) a.events)
       (choose (RowSends k b) (is_end w) (settled_so (closed false b) a.watches) more (same_out k b (closed false b) refl) (settle_sends s k (less n) a.watches b q)))
 
-  opens : (k : ℕ) (c : Connection) (r : ConnectReply) (epoch : ℕ) → ((r.session == 0) ≡ true → Unit {0}) → Sends k c [] (opened r epoch c)
-  opens k c r epoch h = choose (Sends k c []) (r.session == 0) _ _ (connect_packet r ∷ [], refl, (inr (inl (r, refl)), tt)) (connect_packet r ∷ [], refl, (inr (inl (r, refl)), tt))
+  opens : (k : ℕ) (c : Connection) (r : ConnectReply) (epoch : ℕ) → is_over c.phase ≡ false → ((r.session == 0) ≡ true → Unit {0}) → Sends k c [] (opened r epoch c)
+  opens k c r epoch o h = choose (Sends k c []) (r.session == 0) _ _ (connect_packet r ∷ [], refl, (inr (inl (r, refl)), tt)) (connect_packet r ∷ [], refl, (inr (inl (r, refl)), tt))
 
   pub sends : Acts Sends (λ k. Unit {0}) (λ k. Unit {0}) (λ k q. Unit {0}) Text
   sends = record {
@@ -143,10 +142,10 @@ module _ (text : List ℕ → List ℕ) where
     behind = behind;
     takes = λ k c bytes. same_out k c (fed c bytes).0 (fed_out c bytes);
     joins = λ k g c d q l f h a. same_out k c (joined_one g c d q).connection (one_out g c d q);
-    loses = λ k c. same_out k c (closed true c) refl;
+    loses = λ k c l. same_out k c (closed true c) refl;
     settles = λ s k n ws c. settle_sends s k n ws c c.queue;
-    closes = λ k c u. same_out k c (closed false c) refl;
-    says = λ k c w t u. (w ∷ [], refl, (inr (inr t), tt));
+    closes = λ k c o u. same_out k c (closed false c) refl;
+    says = λ k c w o t u. (w ∷ [], refl, (inr (inr t), tt));
     opens = opens;
   }
 

@@ -1,11 +1,9 @@
 -- What holds of every act holds at each place of a node's connections, at each event.
-use Rattle.std.proofs.Common.{◌≡◌, ℕ, Bool, true, false, cond, ◌&&◌, ◌||◌, not, List, [], ◌∷◌, ◌++◌, length, Option, Some, None, is_some, refl, ap, sym, subst, ◌∙◌, append-nil}
-use Rattle.std.specs.Prelude.{if◌then◌else◌, ◌==◌}
+use Rattle.std.proofs.Common.{◌≡◌, ℕ, Bool, true, false, cond, List, [], ◌∷◌, ◌++◌, Option, Some, None, is_some, refl, ap, sym, subst, ◌∙◌}
+use Rattle.std.specs.Prelude.{if◌then◌else◌}
 use Rattle.std.specs.Option.{option_map}
 use Rattle.std.specs.Ordering.{nat_cmp, eq_by_cmp}
 use Rattle.std.specs.FinMap as map
-use Rattle.kp_model.specs.declared.entry.Body.{Body}
-use Rattle.kp_model.specs.declared.reply.Reply.{Reply}
 use Rattle.kp_model.specs.LogEntry.{LogEntry}
 use Rattle.kp_model.specs.State.{State}
 use Rattle.kp_model.specs.Step.{Outcome, apply}
@@ -22,14 +20,13 @@ use Rattle.kp_step.specs.declared.seat.Seat.{Seat}
 use Rattle.kp_step.specs.Choices.{Choices}
 use Rattle.kp_step.specs.Node.{Node, Seats}
 use Rattle.kp_step.specs.Settling.{Told, Settled, settled}
-use Rattle.kp_step.specs.Handing.{Ground, Desk, Served, joined_all, serves, greeted_as, ground, desk}
+use Rattle.kp_step.specs.Handing.{Served, joined_all, greeted_as, ground, desk}
 use Rattle.kp_step.specs.Tables.{Table, Row, mapped, row_at, row_told, with_row, tabled, more_at, seated, with_served, settled_in, settled_one, settled_all}
 use Rattle.kp_step.specs.Committing.{hears, meaning, newcomer, session_of, session_at, number_in, greeted_in, greeted_at, greeted_by, greeted, informed, committed}
 use Rattle.kp_step.specs.Asking.{Words, fed_end, client_served}
-use Rattle.kp_step.specs.Step.{Turn, client_turn, client_table, fed_turn, commit_turn, risen, ended, rose, with_row_if, raft_table}
-use Rattle.kp_step.proofs.Tables.{no, tied, get-insert, get-mapped}
+use Rattle.kp_step.specs.Step.{Turn, client_turn, fed_turn, risen, ended, rose, with_row_if, raft_table}
+use Rattle.kp_step.proofs.Tables.{tied, get-insert, get-mapped}
 use Rattle.kp_step.proofs.Moving.{is_live}
-use Rattle.kp_step.proofs.Serves.{choose}
 use Rattle.kp_answers.specs.Whence.{next_in}
 use Rattle.kp_answers.proofs.Walk.{Allowed, Acts, Serving, Feeds, Greets, feed, greet}
 
@@ -108,16 +105,16 @@ module _ (R : ℕ → Connection → List Told → Connection → Type 0) (Lacki
   stay_goes : (x : Node) → (k : ℕ) → At R k (map.get x.seats k) [] (map.get x.seats k)
   stay_goes x k = still_at k (map.get x.seats k)
 
-  fed_goes : (words : Words) (ch : Choices) (x : Node) (now k : ℕ) (bytes : List ℕ) (s : Seat) → map.get x.seats k ≡ Some s → MayFeed words ch x now k bytes s → TurnGoes x (fed_turn x now k s (fed_end s bytes) (client_served words ch x now k bytes s))
+  fed_goes : (words : Words) (ch : Choices) (x : Node) (now k : ℕ) (bytes : List ℕ) (s : Seat) → map.get x.seats k ≡ Some s → is_over s.connection.phase ≡ false → MayFeed words ch x now k bytes s → TurnGoes x (fed_turn x now k s (fed_end s bytes) (client_served words ch x now k bytes s))
   unfolding client_served
-  fed_goes words ch x now k bytes s there h = served_goes x.seats (tabled x.seats x.watches) k s (client_served words ch x now k bytes s) (tabled_goes x.seats x.watches) there
-      (feed R Lacking Ends Came Text A (ground now x.state x) (ch.luck k) k s.draw (words x) (desk x) x.watches s.connection bytes h.0 h.1)
+  fed_goes words ch x now k bytes s there u h = served_goes x.seats (tabled x.seats x.watches) k s (client_served words ch x now k bytes s) (tabled_goes x.seats x.watches) there
+      (feed R Lacking Ends Came Text A (ground now x.state x) (ch.luck k) k s.draw (words x) (desk x) x.watches s.connection bytes u h.0 h.1)
 
   pub client_goes : (words : Words) (ch : Choices) (x : Node) (now k : ℕ) (bytes : List ℕ) → ((s : Seat) → map.get x.seats k ≡ Some s → is_over s.connection.phase ≡ false → MayFeed words ch x now k bytes s) → TurnGoes x (client_turn words ch x now k bytes (map.get x.seats k))
   client_goes words ch x now k bytes h = by_seat (map.get x.seats k) refl where
     by_over : (s : Seat) (b : Bool) → map.get x.seats k ≡ Some s → is_over s.connection.phase ≡ b → TurnGoes x (if b then client_turn words ch x now k bytes None else fed_turn x now k s (fed_end s bytes) (client_served words ch x now k bytes s))
     by_over s true there e = stay_goes x
-    by_over s false there e = fed_goes words ch x now k bytes s there (h s there e)
+    by_over s false there e = fed_goes words ch x now k bytes s there e (h s there e)
 
     by_seat : (o : Option Seat) → map.get x.seats k ≡ o → TurnGoes x (client_turn words ch x now k bytes o)
     by_seat None there = stay_goes x
@@ -164,7 +161,7 @@ module _ (R : ℕ → Connection → List Told → Connection → Type 0) (Lacki
       by_phase : (k : ℕ) (y : Seat) (p : Phase) → map.get told_table.seats k ≡ Some y → y.connection.phase ≡ p → (if is_stale Came_.reply then None else newcomer x.me x.boot e.body) ≡ Some k → Goes R x.seats (greeted_in ch (ground now Came_.state x) (desk x) told_table (session_of e.body Came_.reply) k y p).table
       by_phase k y phase.Fresh there q n = g
       by_phase k y (phase.Connecting ro) there q n = served_goes x.seats told_table k y (greeted_as (ground now Came_.state x) (ch.luck k) k told_table.watches (desk x) y.connection ro (number_in (session_of e.body Came_.reply)) (session_at Came_.state (session_of e.body Came_.reply))) g there
-          (greet R Lacking Ends Came Text A (ground now Came_.state x) (ch.luck k) k told_table.watches (desk x) y.connection ro (number_in (session_of e.body Came_.reply)) (session_at Came_.state (session_of e.body Came_.reply)) (h k y ro there q n))
+          (greet R Lacking Ends Came Text A (ground now Came_.state x) (ch.luck k) k told_table.watches (desk x) y.connection ro (number_in (session_of e.body Came_.reply)) (session_at Came_.state (session_of e.body Came_.reply)) (ap is_over q) (h k y ro there q n))
       by_phase k y (phase.Live s f n0) there q n = g
       by_phase k y (phase.Closing lost) there q n = g
 

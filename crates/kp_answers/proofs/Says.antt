@@ -1,14 +1,12 @@
 -- When an event is answered that there is nothing for it.
-use Rattle.std.proofs.Common.{◌≡◌, ℕ, zero, suc, ◌≤◌, ◌<◌, ◌+◌, ◌-◌, Bool, true, false, not, List, [], ◌∷◌, length, drop, Option, Some, None, is_some, refl, ap, sym, subst, ◌∙◌, arith}
+use Rattle.std.proofs.Common.{◌≡◌, ℕ, zero, suc, ◌≤◌, ◌<◌, ◌-◌, Bool, true, false, not, List, [], ◌∷◌, length, drop, Option, Some, None, is_some, refl, ap, sym, subst, ◌∙◌, arith}
 use Rattle.std.proofs.lemmas.Bool.Decides.{nat_tests}
-use Rattle.std.proofs.lemmas.Option.{slice_get_past}
 use Rattle.std.specs.Prelude.{if◌then◌else◌, nat_lt, slice_get, ◌↔◌}
 use Rattle.std.specs.FinMap as map
 use Rattle.kp_model.specs.LogEntry.{LogEntry}
 use Rattle.kp_raft.specs.declared.mail.Mail.{Mail}
 use Rattle.kp_event.specs.declared.event.NodeEventKind.{NodeEventKind}
 use Rattle.kp_event.specs.declared.event.NodeEventKind.TheVariants as kind
-use Rattle.kp_event.specs.declared.said.FedWord.{FedWord}
 use Rattle.kp_event.specs.declared.said.FedWord.TheVariants as fed
 use Rattle.kp_event.specs.declared.said.Said.{Said}
 use Rattle.kp_event.specs.declared.said.Said.TheVariants as says
@@ -16,11 +14,11 @@ use Rattle.kp_conn.specs.declared.fed.FedEnd.{FedEnd}
 use Rattle.kp_conn.specs.declared.fed.FedEnd.TheVariants as ends
 use Rattle.kp_conn.specs.Connection.{is_over}
 use Rattle.kp_step.specs.declared.seat.Seat.{Seat}
-use Rattle.kp_step.specs.Node.{Node, unapplied, last}
+use Rattle.kp_step.specs.Node.{Node, unapplied}
 use Rattle.kp_step.specs.Applying.{upcoming}
 use Rattle.kp_step.specs.Asking.{fed_end}
-use Rattle.kp_step.specs.Step.{step, fed_word, piece_of}
-use Rattle.kp_step.specs.Rows.{word_for, piece_for, index_for, IsSaidTo}
+use Rattle.kp_step.specs.Step.{step, fed_word}
+use Rattle.kp_step.specs.Rows.{word_for, piece_for, index_for}
 use Rattle.kp_step.proofs.Tables.{no}
 use Rattle.kp_step.proofs.Rows.{steps_say}
 use Rattle.kp_answers.specs.Says.{is_open, SaidTo, IsUnknown, IsMissing, ReachesCommit, IsAllApplied}

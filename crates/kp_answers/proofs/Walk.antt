@@ -1,10 +1,7 @@
 -- What a step does to each connection, act by act: what holds of every act holds of the step.
-use Rattle.std.proofs.Common.{◌≡◌, ℕ, suc, ◌+◌, ◌≤◌, Bool, true, false, cond, ◌&&◌, ◌||◌, not, inl, inr, List, [], ◌∷◌, ◌++◌, length, Option, Some, None, is_some, refl, ap, sym, subst, ◌∙◌, append-nil, arith}
+use Rattle.std.proofs.Common.{◌≡◌, ℕ, ◌+◌, ◌≤◌, Bool, true, false, ◌&&◌, ◌||◌, not, inl, inr, List, [], ◌∷◌, ◌++◌, length, Option, Some, None, is_some, refl, sym, subst, ◌∙◌, append-nil, arith}
 use Rattle.std.proofs.lemmas.Bool.Decides.{nat_tests}
 use Rattle.std.specs.Prelude.{if◌then◌else◌, ◌==◌, nat_lt, nat_le}
-use Rattle.std.specs.Option.{option_map}
-use Rattle.std.specs.Ordering.{nat_cmp, eq_by_cmp}
-use Rattle.std.specs.FinMap as map
 use Rattle.kp_model.specs.declared.command.Cmd.{Cmd}
 use Rattle.kp_model.specs.declared.entry.Body.{Body}
 use Rattle.kp_model.specs.declared.session.Session.{Session}
@@ -24,13 +21,10 @@ use Rattle.kp_conn.specs.declared.phase.Phase.TheVariants as phase
 use Rattle.kp_conn.specs.Connection.{Connection, closed, numbered as renumbered, put, opened, is_over}
 use Rattle.kp_conn.specs.Packets.{connect_packet}
 use Rattle.kp_conn.specs.Fed.{fed, fed_as}
-use Rattle.kp_step.specs.declared.seat.Seat.{Seat}
-use Rattle.kp_step.specs.Choices.{Choices, Luck, is_out, less}
-use Rattle.kp_step.specs.Node.{Seats}
-use Rattle.kp_step.specs.Settling.{Told, Settled, settled}
-use Rattle.kp_step.specs.Handing.{Ground, Desk, Joined, Served, proposed, handed, is_led, joined_so, joined_write, joined_as, joined_one, joined_all, taking, served, ended_by, is_refused, refusal, connects, first_served, served_as, serves, greeting, welcomed, greeted_as}
-use Rattle.kp_step.specs.Tables.{Table, Row, row_at, row_told, with_row, tabled, more_at, seated, with_served, settled_in, settled_one, settled_all}
-use Rattle.kp_step.proofs.Tables.{no, tied, get-insert, get-mapped}
+use Rattle.kp_step.specs.Choices.{Luck, is_out, less}
+use Rattle.kp_step.specs.Settling.{Told, settled}
+use Rattle.kp_step.specs.Handing.{Ground, Desk, Joined, Served, proposed, handed, is_led, joined_so, joined_write, joined_as, joined_one, joined_all, taking, served, ended_by, is_refused, refusal, first_served, served_as, serves, greeting, welcomed, greeted_as}
+use Rattle.kp_step.proofs.Tables.{no}
 use Rattle.kp_step.proofs.Moving.{is_live}
 use Rattle.kp_step.proofs.Serves.{choose, fed_so}
 use Rattle.kp_answers.specs.Whence.{IsAmong, next_in}
@@ -109,7 +103,7 @@ as_goes : (g : Ground) (c : Connection) (d : Desk) (q : Request) (o : Option Cmd
 as_goes g c d q None l = no_number c.phase l
 as_goes g c d q (Some w) l = write_goes g c d q w c.phase refl l
 
-one_goes : (g : Ground) (c : Connection) (d : Desk) (q : Request) → is_live c.phase ≡ true → OneGoes c.phase (joined_one g c d q)
+pub one_goes : (g : Ground) (c : Connection) (d : Desk) (q : Request) → is_live c.phase ≡ true → OneGoes c.phase (joined_one g c d q)
 unfolding joined_one
 one_goes g c d q l = as_goes g c d q (command q.ask) l
 
@@ -149,12 +143,12 @@ pub record Acts (R : ℕ → Connection → List Told → Connection → Type 0)
   -- bytes come; a request joins; no memory is found
   pub takes : (k : ℕ) (c : Connection) (bytes : List ℕ) → R k c [] (fed c bytes).0
   pub joins : (k : ℕ) (g : Ground) (c : Connection) (d : Desk) (q : Request) → is_live c.phase ≡ true → (is_led g d ≡ false → Lacking k) → (nat_lt last_number (next_in c.phase) ≡ true → Lacking k) → Came k q → R k c [] (joined_one g c d q).connection
-  pub loses : (k : ℕ) (c : Connection) → R k c [] (closed true c)
+  pub loses : (k : ℕ) (c : Connection) → is_live c.phase ≡ true → R k c [] (closed true c)
   -- what can be answered is; the connection ends; a word is told; a connect request is answered
   pub settles : (s : State) (k : ℕ) (n : Option ℕ) (ws : List Watch) (c : Connection) → R k c (settled s k n ws c c.queue).told (settled s k n ws c c.queue).connection
-  pub closes : (k : ℕ) (c : Connection) → Ends k → R k c [] (closed false c)
-  pub says : (k : ℕ) (c : Connection) (w : List ℕ) → Text w → Ends k → R k c [] (closed false (put w c))
-  pub opens : (k : ℕ) (c : Connection) (r : ConnectReply) (epoch : ℕ) → ((r.session == 0) ≡ true → Ends k) → R k c [] (opened r epoch c)
+  pub closes : (k : ℕ) (c : Connection) → is_over c.phase ≡ false → Ends k → R k c [] (closed false c)
+  pub says : (k : ℕ) (c : Connection) (w : List ℕ) → is_over c.phase ≡ false → Text w → Ends k → R k c [] (closed false (put w c))
+  pub opens : (k : ℕ) (c : Connection) (r : ConnectReply) (epoch : ℕ) → is_over c.phase ≡ false → ((r.session == 0) ≡ true → Ends k) → R k c [] (opened r epoch c)
 
 module _ (R : ℕ → Connection → List Told → Connection → Type 0) (Lacking Ends : ℕ → Type 0) (Came : ℕ → Request → Type 0) (Text : List ℕ → Type 0) (A : Acts R Lacking Ends Came Text) where
   abbrev Joining : ℕ → Connection → Joined → Type 0
@@ -174,7 +168,7 @@ module _ (R : ℕ → Connection → List Told → Connection → Type 0) (Lacki
   unfolding joined_all
   join_all k g n c d [] l h = A.still k c
   join_all k g n c d (q ∷ qs) l h = let one = joined_one g c d q in let rest = joined_all g (less n) one.connection one.desk qs in let on = one_goes g c d q l in
-      by_luck k (next_in c.phase) g c (is_out n) (joined_so (closed true c) d) (taking q rest) h (A.loses k c)
+      by_luck k (next_in c.phase) g c (is_out n) (joined_so (closed true c) d) (taking q rest) h (A.loses k c l)
       (λ (f : Allowed Lacking Came g k (next_in c.phase) (taking q rest)). A.behind k c one.connection rest.connection [] []
       (A.joins k g c d q l (λ e. unled (g.leader == 0) g.leads (nat_lt 0 d.room) e f.none (λ b r. f.full b (all_full g (less n) one.connection one.desk qs (one_full g c d q r))))
       (λ e. f.far (more last_number (next_in c.phase) (next_in c.phase + length (q ∷ rest.took)) (omega arith) e)) (f.came q (inl refl)))
@@ -183,7 +177,7 @@ module _ (R : ℕ → Connection → List Told → Connection → Type 0) (Lacki
   end_act : (k : ℕ) (e : FedEnd) (c : Connection) → ((at : ℕ) → e ≡ ends.Bad at → Ends k) → R k c [] (ended_by e c)
   end_act k ends.Ok c b = A.still k c
   end_act k (ends.Word w) c b = A.still k c
-  end_act k (ends.Bad at) c b = choose (λ z. R k c [] z) (is_over c.phase) c (closed false c) (A.still k c) (A.closes k c (b at refl))
+  end_act k (ends.Bad at) c b = pick (λ z. R k c [] z) (is_over c.phase) c (closed false c) (λ o. A.still k c) (λ o. A.closes k c o (b at refl))
 
   pub serve : (k : ℕ) (g : Ground) (luck : Luck) (ws : List Watch) (c : Connection) (d : Desk) (f : Fed) → is_live c.phase ≡ true → Allowed Lacking Came g k (next_in c.phase) (joined_all g luck.requests c d f.requests) → ((at : ℕ) → f.end ≡ ends.Bad at → Ends k) → Serving k c (served g luck k ws c d f)
   unfolding served
@@ -200,25 +194,25 @@ module _ (R : ℕ → Connection → List Told → Connection → Type 0) (Lacki
     pub refused : (q : ConnectRequest) → f.connect ≡ Some q → is_refused q ≡ true → Ends k
     pub unled : (q : ConnectRequest) → f.connect ≡ Some q → is_led g d ≡ false → Ends k
 
-  first : (g : Ground) (k : ℕ) (draw : List ℕ) (text : List ℕ → List ℕ) (c : Connection) (d : Desk) (ws : List Watch) (f : Fed) → Feeds g k text d f → (o : Option ConnectRequest) (e : FedEnd) → f.connect ≡ o → f.end ≡ e → Serving k c (first_served g k draw text c d ws o e)
-  first g k draw text c d ws f h (Some q) e p r = pick (Serving k c) (is_refused q) _ _ (λ b. A.opens k c (refusal (is_some q.read_only)) 0 (λ z. h.refused q p b))
-      (λ b. pick (Serving k c) (is_led g d) _ _ (λ z. A.still k c) (λ z. A.closes k c (h.unled q p z)))
-  first g k draw text c d ws f h None ends.Ok p r = A.still k c
-  first g k draw text c d ws f h None (ends.Bad at) p r = A.closes k c (h.bad at r)
-  first g k draw text c d ws f h None (ends.Word w) p r = A.says k c (text w) (h.told w) (h.word w r)
+  first : (g : Ground) (k : ℕ) (draw : List ℕ) (text : List ℕ → List ℕ) (c : Connection) (d : Desk) (ws : List Watch) (f : Fed) → is_over c.phase ≡ false → Feeds g k text d f → (o : Option ConnectRequest) (e : FedEnd) → f.connect ≡ o → f.end ≡ e → Serving k c (first_served g k draw text c d ws o e)
+  first g k draw text c d ws f u h (Some q) e p r = pick (Serving k c) (is_refused q) _ _ (λ b. A.opens k c (refusal (is_some q.read_only)) 0 u (λ z. h.refused q p b))
+      (λ b. pick (Serving k c) (is_led g d) _ _ (λ z. A.still k c) (λ z. A.closes k c u (h.unled q p z)))
+  first g k draw text c d ws f u h None ends.Ok p r = A.still k c
+  first g k draw text c d ws f u h None (ends.Bad at) p r = A.closes k c u (h.bad at r)
+  first g k draw text c d ws f u h None (ends.Word w) p r = A.says k c (text w) u (h.told w) (h.word w r)
 
-  served_by : (g : Ground) (luck : Luck) (k : ℕ) (draw : List ℕ) (text : List ℕ → List ℕ) (d : Desk) (ws : List Watch) (p : Phase) (c : Connection) (f : Fed) → Feeds g k text d f
+  served_by : (g : Ground) (luck : Luck) (k : ℕ) (draw : List ℕ) (text : List ℕ → List ℕ) (d : Desk) (ws : List Watch) (p : Phase) (c : Connection) (f : Fed) → is_over c.phase ≡ false → Feeds g k text d f
       → (is_live p ≡ true → (is_live c.phase ≡ true) × Allowed Lacking Came g k (next_in c.phase) (joined_all g luck.requests c d f.requests)) → Serving k c (served_as g luck k draw text d ws p c f)
-  served_by g luck k draw text d ws phase.Fresh c f h l = first g k draw text c d ws f h f.connect f.end refl refl
-  served_by g luck k draw text d ws (phase.Connecting ro) c f h l = first g k draw text c d ws f h f.connect f.end refl refl
-  served_by g luck k draw text d ws (phase.Live s e n) c f h l = let m = l refl in serve k g luck ws c d f m.0 m.1 h.bad
-  served_by g luck k draw text d ws (phase.Closing lost) c f h l = first g k draw text c d ws f h f.connect f.end refl refl
+  served_by g luck k draw text d ws phase.Fresh c f u h l = first g k draw text c d ws f u h f.connect f.end refl refl
+  served_by g luck k draw text d ws (phase.Connecting ro) c f u h l = first g k draw text c d ws f u h f.connect f.end refl refl
+  served_by g luck k draw text d ws (phase.Live s e n) c f u h l = let m = l refl in serve k g luck ws c d f m.0 m.1 h.bad
+  served_by g luck k draw text d ws (phase.Closing lost) c f u h l = first g k draw text c d ws f u h f.connect f.end refl refl
 
-  pub feed : (g : Ground) (luck : Luck) (k : ℕ) (draw : List ℕ) (text : List ℕ → List ℕ) (d : Desk) (ws : List Watch) (c : Connection) (bytes : List ℕ) → Feeds g k text d (fed c bytes).1
+  pub feed : (g : Ground) (luck : Luck) (k : ℕ) (draw : List ℕ) (text : List ℕ → List ℕ) (d : Desk) (ws : List Watch) (c : Connection) (bytes : List ℕ) → is_over c.phase ≡ false → Feeds g k text d (fed c bytes).1
       → (is_live c.phase ≡ true → Allowed Lacking Came g k (next_in c.phase) (joined_all g luck.requests (fed c bytes).0 d (fed c bytes).1.requests)) → Serving k c (serves g luck k draw text d ws c bytes)
   unfolding serves
-  feed g luck k draw text d ws c bytes h l = let w = served_as g luck k draw text d ws c.phase (fed c bytes).0 (fed c bytes).1 in
-      A.behind k c (fed c bytes).0 w.connection [] w.told (A.takes k c bytes) (served_by g luck k draw text d ws c.phase (fed c bytes).0 (fed c bytes).1 h
+  feed g luck k draw text d ws c bytes u h l = let w = served_as g luck k draw text d ws c.phase (fed c bytes).0 (fed c bytes).1 in
+      A.behind k c (fed c bytes).0 w.connection [] w.told (A.takes k c bytes) (served_by g luck k draw text d ws c.phase (fed c bytes).0 (fed c bytes).1 ((fed_so c bytes).over ∙ u) h
       (λ b. ((fed_so c bytes).live ∙ b, subst (λ z. Allowed Lacking Came g k (next_in z) (joined_all g luck.requests (fed c bytes).0 d (fed c bytes).1.requests)) (sym (fed_phase c bytes b)) (l b))))
 
   -- ---- a connect request that was answered
@@ -239,6 +233,6 @@ module _ (R : ℕ → Connection → List Told → Connection → Type 0) (Lacki
     pub opened_ : (x : Session) → o ≡ Some x → (id == 0) ≡ false → (y : Connection) → y ≡ record (put (connect_packet (greeting ro id x)) c) { phase = phase.Live id x.epoch 1 }
         → Allowed Lacking Came g k 1 (joined_all g luck.requests (fed y []).0 d (fed y []).1.requests) × ((at : ℕ) → (fed y []).1.end ≡ ends.Bad at → Ends k)
 
-  pub greet : (g : Ground) (luck : Luck) (k : ℕ) (ws : List Watch) (d : Desk) (c : Connection) (ro : Bool) (id : ℕ) (o : Option Session) → Greets g luck k d c ro id o → Serving k c (greeted_as g luck k ws d c ro id o)
-  greet g luck k ws d c ro id None h = A.opens k c (refusal ro) 0 (λ e. h.refused refl)
-  greet g luck k ws d c ro id (Some x) h = open_by g luck k ws d c (put (connect_packet (greeting ro id x)) c) id x.epoch (id == 0) (A.opens k c (greeting ro id x) x.epoch h.zero) (λ z y e. h.opened_ x refl z y e)
+  pub greet : (g : Ground) (luck : Luck) (k : ℕ) (ws : List Watch) (d : Desk) (c : Connection) (ro : Bool) (id : ℕ) (o : Option Session) → is_over c.phase ≡ false → Greets g luck k d c ro id o → Serving k c (greeted_as g luck k ws d c ro id o)
+  greet g luck k ws d c ro id None u h = A.opens k c (refusal ro) 0 u (λ e. h.refused refl)
+  greet g luck k ws d c ro id (Some x) u h = open_by g luck k ws d c (put (connect_packet (greeting ro id x)) c) id x.epoch (id == 0) (A.opens k c (greeting ro id x) x.epoch u h.zero) (λ z y e. h.opened_ x refl z y e)

@@ -1,7 +1,6 @@
 -- Where an answer to a write comes from, at every event.
-use Rattle.std.proofs.Common.{◌≡◌, ℕ, ◌+◌, Bool, true, false, cond, ◌&&◌, not, inl, inr, List, [], ◌∷◌, ◌++◌, length, slice_get, slice_set, Option, Some, None, is_some, refl, ap, sym, subst, ◌∙◌}
-use Rattle.std.specs.Prelude.{if◌then◌else◌, ◌==◌, ◌⊎◌, nat_lt}
-use Rattle.std.specs.List.{AllByRecursion}
+use Rattle.std.proofs.Common.{◌≡◌, ℕ, ◌+◌, Bool, true, false, ◌&&◌, not, inl, inr, List, [], ◌∷◌, ◌++◌, length, slice_set, Option, Some, None, refl, ap, sym, subst, ◌∙◌}
+use Rattle.std.specs.Prelude.{if◌then◌else◌, nat_lt}
 use Rattle.std.specs.FinMap as map
 use Rattle.kp_model.specs.declared.command.Cmd.{Cmd}
 use Rattle.kp_model.specs.declared.entry.Body.{Body}
@@ -11,7 +10,7 @@ use Rattle.kp_model.specs.declared.reply.Reply.TheVariants as reply
 use Rattle.kp_model.specs.declared.session.Origin.{Origin}
 use Rattle.kp_model.specs.Limits.{last_number}
 use Rattle.kp_model.specs.LogEntry.{LogEntry}
-use Rattle.kp_model.specs.State.{State, same_origin}
+use Rattle.kp_model.specs.State.{same_origin}
 use Rattle.kp_model.specs.Step.{apply}
 use Rattle.kp_model.specs.Taken.{is_stale}
 use Rattle.kp_raft.specs.declared.mail.Mail.{Mail}
@@ -20,34 +19,31 @@ use Rattle.kp_event.specs.declared.event.NodeEventKind.{NodeEventKind}
 use Rattle.kp_event.specs.declared.event.NodeEventKind.TheVariants as kind
 use Rattle.kp_ask.specs.Answers.{answer_to}
 use Rattle.kp_wire.specs.declared.request.Request.{Request}
-use Rattle.kp_wire.specs.declared.reply.WireReply.{WireReply}
 use Rattle.kp_watch.specs.Watching.{fired}
 use Rattle.kp_conn.specs.declared.phase.Phase.{Phase}
 use Rattle.kp_conn.specs.declared.phase.Phase.TheVariants as phase
 use Rattle.kp_conn.specs.declared.waiting.Waiting.{Waiting}
 use Rattle.kp_conn.specs.Connection.{Connection, is_over}
-use Rattle.kp_conn.specs.Queue.{awaited, is_close, place_of, replied, settled_at, settled_queue}
-use Rattle.kp_conn.specs.Fed.{fed}
+use Rattle.kp_conn.specs.Queue.{awaited, is_close, place_of, replied, settled_at}
 use Rattle.kp_step.specs.declared.seat.Seat.{Seat}
 use Rattle.kp_step.specs.Choices.{Choices}
 use Rattle.kp_step.specs.Node.{Node, Images}
 use Rattle.kp_step.specs.Answers.{by_end, by_move}
-use Rattle.kp_step.specs.Settling.{Told, Settled, stays, refused_if}
-use Rattle.kp_step.specs.Handing.{Desk, desk, ground, joined_all, welcomed}
+use Rattle.kp_step.specs.Settling.{Told, Settled}
+use Rattle.kp_step.specs.Handing.{Desk, desk, ground, welcomed}
 use Rattle.kp_step.specs.Applying.{upcoming}
-use Rattle.kp_step.specs.Committing.{hears, is_of, is_in, replied_in, replied_to, attached_to, applied_to, meaning, number_in, committed}
-use Rattle.kp_step.specs.Asking.{Words, reacted, installed, asked, client_served}
-use Rattle.kp_step.specs.Step.{Turn, client_turn, drain_turn, commit_turn, raft_table, rose, turned, applies, together, step}
+use Rattle.kp_step.specs.Committing.{hears, is_of, is_in, replied_in, attached_to, applied_to, meaning, committed}
+use Rattle.kp_step.specs.Asking.{Words, reacted, installed, asked}
+use Rattle.kp_step.specs.Step.{Turn, client_turn, drain_turn, commit_turn, raft_table, turned, applies, together, step}
 use Rattle.kp_step.proofs.Tables.{no}
 use Rattle.kp_step.proofs.Moving.{is_live}
-use Rattle.kp_step.proofs.Serves.{choose}
-use Rattle.kp_answers.specs.Whence.{SomeWaits, IsAmong, queue_at, phase_at, next_in, is_write_of, IsItsReply, client_desk, commit_desk, desk_behind, Lacks, IsWhence, AreWhence, WritesAreAnswered}
+use Rattle.kp_answers.specs.Whence.{SomeWaits, IsAmong, queue_at, phase_at, next_in, is_write_of, client_desk, commit_desk, desk_behind, Lacks, AreWhence, WritesAreAnswered}
 use Rattle.kp_answers.proofs.Queues.{all_set, some_at, numbered_at}
-use Rattle.kp_answers.proofs.Walk.{Allowed, Feeds, Greets, pick}
-use Rattle.kp_answers.proofs.Places.{At, Goes, client_goes, commit_goes, raft_goes}
+use Rattle.kp_answers.proofs.Walk.{Allowed, pick}
+use Rattle.kp_answers.proofs.Places.{At, client_goes, commit_goes, raft_goes}
 use Rattle.kp_answers.proofs.Heard as heard
 use Rattle.kp_answers.proofs.Heard.{IsHeard, hears_it}
-use Rattle.kp_answers.proofs.Whences.{Stood, IsKnown, AllKnown, TellsOf, AllTell, Known, SettledKnown, acts, refuse_if, rises, leaves, stands}
+use Rattle.kp_answers.proofs.Whences.{Stood, IsKnown, AllKnown, AllTell, Known, SettledKnown, acts, refuse_if, rises, leaves, stands}
 
 -- ---- what an entry means
 

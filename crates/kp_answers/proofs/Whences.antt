@@ -1,51 +1,38 @@
 -- Where an answer to a write comes from.
-use Rattle.std.proofs.Common.{◌≡◌, ℕ, suc, ◌+◌, Bool, true, false, cond, ◌&&◌, ◌||◌, not, inl, inr, List, [], ◌∷◌, ◌++◌, length, slice_get, slice_set, Option, Some, None, is_some, refl, ap, sym, subst, ◌∙◌, arith}
+use Rattle.std.proofs.Common.{◌≡◌, ℕ, Bool, true, false, ◌&&◌, inl, inr, List, [], ◌∷◌, ◌++◌, length, Option, Some, None, is_some, refl, ap, sym, subst, ◌∙◌, arith}
 use Rattle.std.proofs.lemmas.Bool.Decides.{nat_tests}
 use Rattle.std.specs.Prelude.{if◌then◌else◌, ◌==◌, ◌⊎◌, nat_lt, nat_le}
 use Rattle.std.specs.List.{AllByRecursion}
 use Rattle.std.specs.FinMap as map
 use Rattle.kp_model.specs.declared.command.Cmd.{Cmd}
-use Rattle.kp_model.specs.declared.entry.Body.{Body}
-use Rattle.kp_model.specs.declared.entry.Body.TheVariants as body
-use Rattle.kp_model.specs.declared.reply.Event.{Event}
-use Rattle.kp_model.specs.declared.reply.Reply.{Reply}
-use Rattle.kp_model.specs.declared.reply.Reply.TheVariants as reply
-use Rattle.kp_model.specs.declared.session.Origin.{Origin}
 use Rattle.kp_model.specs.Limits.{last_number}
 use Rattle.kp_model.specs.LogEntry.{LogEntry}
-use Rattle.kp_model.specs.State.{State, same_origin}
-use Rattle.kp_model.specs.Step.{apply}
-use Rattle.kp_model.specs.Taken.{is_stale}
+use Rattle.kp_model.specs.State.{State}
 use Rattle.kp_ask.specs.Asks.{command}
-use Rattle.kp_ask.specs.Answers.{answer_to}
 use Rattle.kp_wire.specs.declared.connect.ConnectReply.{ConnectReply}
 use Rattle.kp_wire.specs.declared.request.Request.{Request}
 use Rattle.kp_wire.specs.declared.reply.WireReply.{WireReply}
 use Rattle.kp_wire.specs.declared.reply.WireReply.TheVariants as sent
 use Rattle.kp_watch.specs.declared.watch.Watch.{Watch}
-use Rattle.kp_watch.specs.Watching.{fired}
 use Rattle.kp_conn.specs.declared.phase.Phase.{Phase}
 use Rattle.kp_conn.specs.declared.phase.Phase.TheVariants as phase
 use Rattle.kp_conn.specs.declared.waiting.Mark.{Mark}
 use Rattle.kp_conn.specs.declared.waiting.Waiting.{Waiting}
 use Rattle.kp_conn.specs.Connection.{Connection, closed, joined, put, opened, is_over}
 use Rattle.kp_conn.specs.Packets.{reply_packet}
-use Rattle.kp_conn.specs.Queue.{awaited, is_close, place_of, replied, settled_at, settled_queue}
 use Rattle.kp_conn.specs.Fed.{fed}
-use Rattle.kp_step.specs.declared.seat.Seat.{Seat}
 use Rattle.kp_step.specs.Choices.{Choices, is_out, less}
 use Rattle.kp_step.specs.Node.{Node}
-use Rattle.kp_step.specs.Answers.{Answer, Cause, by_state, by_entry, by_lack, by_term, by_move, by_end, code_of, answer_of, answer_by, unmarked, state_answer}
-use Rattle.kp_step.specs.Settling.{Told, Settled, settled, settled_so, with_queue, put_answer, is_end, telling, told_by, session_in, refused, refused_if, stays, given_out}
-use Rattle.kp_step.specs.Handing.{Ground, Desk, Joined, is_led, unnumbered, numbered, joined_so, joined_write, joined_as, joined_one}
-use Rattle.kp_step.specs.Committing.{packets_for, hears, is_of, is_in, replied_in, replied_to, written_to, attached_to, applied_to, meaning}
+use Rattle.kp_step.specs.Answers.{Answer, Cause, by_state, by_term, code_of, answer_of, answer_by, unmarked, state_answer}
+use Rattle.kp_step.specs.Settling.{Told, Settled, settled, settled_so, with_queue, put_answer, is_end, telling, told_by, session_in, refused, refused_if, stays}
+use Rattle.kp_step.specs.Handing.{Ground, Desk, Joined, is_led, unnumbered, numbered, joined_write, joined_as, joined_one}
 use Rattle.kp_step.specs.Step.{risen_as, risen, ended}
 use Rattle.kp_step.proofs.Tables.{no, not_some}
 use Rattle.kp_step.proofs.Moving.{is_live}
 use Rattle.kp_step.proofs.Settles.{by_answer, state_cause}
 use Rattle.kp_step.proofs.Serves.{choose, fed_so}
-use Rattle.kp_answers.specs.Whence.{SomeWaits, IsAmong, queue_at, phase_at, next_in, is_write_of, IsItsReply, Lacks, IsWhence, AreWhence}
-use Rattle.kp_answers.proofs.Queues.{all_push, all_set, some_at, some_map, all_found, numbered_at}
+use Rattle.kp_answers.specs.Whence.{SomeWaits, IsAmong, queue_at, phase_at, next_in, IsItsReply, Lacks, IsWhence}
+use Rattle.kp_answers.proofs.Queues.{all_push, some_map, all_found}
 use Rattle.kp_answers.proofs.Walk.{Acts, pick}
 
 module _ (x : Node) (e : Option LogEntry) (took : ℕ → List Request) (d : Desk) where
@@ -178,8 +165,8 @@ module _ (x : Node) (e : Option LogEntry) (took : ℕ → List Request) (d : Des
       (λ a f. tells_more k (is_end w) (told_by c.phase s.applied w.request a.reply a.cause) (settled_so (closed false (put_answer s.applied w.request a c)) a.watches) _ (front s k c.phase ws w a f h.0) (tt, tt)
       (settles_known s k (less n) a.watches (put_answer s.applied w.request a c) q h.1))
 
-  opens : (k : ℕ) (c : Connection) (r : ConnectReply) (epoch : ℕ) → ((r.session == 0) ≡ true → Unit {0}) → Known k c [] (opened r epoch c)
-  opens k c r epoch h a = choose (λ (z : Connection). AllKnown k z.queue × AllTell k []) (r.session == 0) _ _ (tt, tt) (a, tt)
+  opens : (k : ℕ) (c : Connection) (r : ConnectReply) (epoch : ℕ) → is_over c.phase ≡ false → ((r.session == 0) ≡ true → Unit {0}) → Known k c [] (opened r epoch c)
+  opens k c r epoch o h a = choose (λ (z : Connection). AllKnown k z.queue × AllTell k []) (r.session == 0) _ _ (tt, tt) (a, tt)
 
   pub acts : Acts Known (λ k. Lacks x d (next_in (P0 k)) (took k)) (λ k. Unit {0}) (λ k q. IsAmong q (took k)) (λ w. Unit {0})
   acts = record {
@@ -187,10 +174,10 @@ module _ (x : Node) (e : Option LogEntry) (took : ℕ → List Request) (d : Des
     behind = behind;
     takes = λ k c bytes. same_queue k c (fed c bytes).0 (fed_so c bytes).queue;
     joins = one_joins;
-    loses = λ k c h. (tt, tt);
+    loses = λ k c l h. (tt, tt);
     settles = λ s k n ws c h. settles_known s k n ws c c.queue h;
-    closes = λ k c u h. (tt, tt);
-    says = λ k c w t u h. (tt, tt);
+    closes = λ k c o u h. (tt, tt);
+    says = λ k c w o t u h. (tt, tt);
     opens = opens;
   }
 

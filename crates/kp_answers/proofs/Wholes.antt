@@ -6,7 +6,6 @@ use Rattle.std.specs.Ordering.{nat_cmp, eq_by_cmp}
 use Rattle.std.specs.FinMap as map
 use Rattle.kp_model.specs.declared.entry.Body.{Body}
 use Rattle.kp_model.specs.declared.entry.Body.TheVariants as body
-use Rattle.kp_model.specs.declared.reply.Event.{Event}
 use Rattle.kp_model.specs.declared.reply.Reply.{Reply}
 use Rattle.kp_model.specs.declared.reply.Reply.TheVariants as reply
 use Rattle.kp_model.specs.declared.session.Origin.{Origin}
@@ -19,7 +18,6 @@ use Rattle.kp_raft.specs.Parts as raft
 use Rattle.kp_event.specs.declared.event.NodeEventKind.{NodeEventKind}
 use Rattle.kp_event.specs.declared.event.NodeEventKind.TheVariants as kind
 use Rattle.kp_wire.specs.declared.reply.WireReply.TheVariants as sent
-use Rattle.kp_watch.specs.declared.watch.Watch.{Watch}
 use Rattle.kp_watch.specs.Watching.{fired}
 use Rattle.kp_conn.specs.declared.phase.Phase.{Phase}
 use Rattle.kp_conn.specs.declared.phase.Phase.TheVariants as phase
@@ -28,19 +26,19 @@ use Rattle.kp_conn.specs.Connection.{Connection, closed, put, is_over, is_lost}
 use Rattle.kp_conn.specs.Packets.{reply_packet}
 use Rattle.kp_step.specs.declared.seat.Seat.{Seat}
 use Rattle.kp_step.specs.Choices.{Choices, is_out, less}
-use Rattle.kp_step.specs.Node.{Node, Seats, Images}
+use Rattle.kp_step.specs.Node.{Node, Images}
 use Rattle.kp_step.specs.Answers.{Cause, by_term, by_move, by_end, code_of}
-use Rattle.kp_step.specs.Settling.{Told, Settled, settled, settled_so, with_queue, telling, told_by, session_in, refused, refused_if, stays}
+use Rattle.kp_step.specs.Settling.{Told, Settled, settled, settled_so, with_queue, telling, told_by, refused, refused_if, stays}
 use Rattle.kp_step.specs.Handing.{Ground, Desk, Served, ground, desk, greeted_as}
-use Rattle.kp_step.specs.Tables.{Table, Row, mapped, row_at, row_told, with_row, tabled, more_at, seated, with_served, settled_in, settled_one, settled_all}
+use Rattle.kp_step.specs.Tables.{Table, row_at, row_told, with_row, tabled, seated, with_served, settled_in, settled_one, settled_all}
 use Rattle.kp_step.specs.Applying.{upcoming}
 use Rattle.kp_step.specs.Committing.{hears, is_of, is_in, replied_to, attached_to, applied_to, meaning, newcomer, session_of, session_at, number_in, greeted_in, greeted_at, greeted_by, greeted, informed, committed}
 use Rattle.kp_step.specs.Asking.{Words, reacted, installed, asked}
 use Rattle.kp_step.specs.Step.{Turn, commit_turn, raft_turn, raft_table, risen_as, risen, ended, rose, with_row_if, turned, applies, together, step}
 use Rattle.kp_step.specs.Causes.{takes_away, expires, applied_is}
-use Rattle.kp_step.proofs.Tables.{no, not_some, tied, get-insert, get-mapped}
+use Rattle.kp_step.proofs.Tables.{no, tied, get-insert, get-mapped}
 use Rattle.kp_step.proofs.Serves.{choose}
-use Rattle.kp_answers.specs.Refused.{serves_one, served_by, refusals, IsRefusedWhole, is_raft, AreRefused, RefusalsAreWhole}
+use Rattle.kp_answers.specs.Refused.{serves_one, served_by, refusals, IsRefusedWhole, is_raft, RefusalsAreWhole}
 use Rattle.kp_answers.proofs.Heard.{IsHeard, hears_it}
 
 -- ---- a refusal

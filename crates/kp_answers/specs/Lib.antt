@@ -3,3 +3,5 @@ pub mod Says
 pub mod Whence
 pub mod Sent
 pub mod Refused
+pub mod Ended
+pub mod Connects

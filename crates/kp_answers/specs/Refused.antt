@@ -1,5 +1,5 @@
 -- What waits is refused, all of it, where its cause is there.
-use Rattle.std.specs.Prelude.{◌≡◌, ◌⊎◌, ◌+◌, ℕ, Bool, true, false, nat_lt, List, [], map, length, Option, Some, None}
+use Rattle.std.specs.Prelude.{◌≡◌, ◌⊎◌, ℕ, Bool, true, false, nat_lt, List, map, length, Option, Some, None}
 use Rattle.std.specs.FinMap as fin
 use Rattle.kp_raft.specs.declared.mail.Mail.{Mail}
 use Rattle.kp_event.specs.declared.event.NodeEvent.{NodeEvent}

@@ -1,5 +1,5 @@
 -- When an event is answered that there is nothing for it.
-use Rattle.std.specs.Prelude.{◌≡◌, ◌≤◌, ◌↔◌, ℕ, Bool, true, false, not, List, Option, Some, None, is_some}
+use Rattle.std.specs.Prelude.{◌≡◌, ◌≤◌, ◌↔◌, Bool, false, not, Option, Some, None}
 use Rattle.std.specs.FinMap as map
 use Rattle.kp_raft.specs.declared.mail.Mail.{Mail}
 use Rattle.kp_event.specs.declared.event.NodeEvent.{NodeEvent}

@@ -1,5 +1,5 @@
 -- What goes out is what was answered: the packets of a connection and its answers.
-use Rattle.std.specs.Prelude.{◌≡◌, ◌⊎◌, ℕ, cond, Bool, List, [], ◌∷◌, ◌++◌, Option, Some, None}
+use Rattle.std.specs.Prelude.{◌≡◌, ◌⊎◌, ℕ, cond, List, [], ◌∷◌, ◌++◌, Option, Some, None}
 use Rattle.std.specs.Ordering.{nat_cmp, eq_by_cmp}
 use Rattle.std.specs.FinMap as map
 use Rattle.kp_model.specs.declared.reply.Event.{Event}
@@ -15,7 +15,7 @@ use Rattle.kp_step.specs.Choices.{Choices}
 use Rattle.kp_step.specs.Node.{Node, Images}
 use Rattle.kp_step.specs.Settling.{Told}
 use Rattle.kp_step.specs.Asking.{Words}
-use Rattle.kp_step.specs.Step.{Stepped, step}
+use Rattle.kp_step.specs.Step.{step}
 
 -- the packet of an answer: its request's number, the index that it shows, the reply
 abbrev pub packet_of : Told → List ℕ

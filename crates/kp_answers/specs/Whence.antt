@@ -6,7 +6,6 @@ use Rattle.kp_model.specs.declared.entry.Body.{Body}
 use Rattle.kp_model.specs.declared.entry.Body.TheVariants as body
 use Rattle.kp_model.specs.Limits.{last_number}
 use Rattle.kp_model.specs.LogEntry.{LogEntry}
-use Rattle.kp_model.specs.State.{State}
 use Rattle.kp_model.specs.Step.{apply}
 use Rattle.kp_model.specs.Taken.{is_stale}
 use Rattle.kp_raft.specs.declared.mail.Mail.{Mail}
@@ -30,7 +29,7 @@ use Rattle.kp_step.specs.Handing.{Desk, desk}
 use Rattle.kp_step.specs.Applying.{upcoming}
 use Rattle.kp_step.specs.Committing.{is_in, committed}
 use Rattle.kp_step.specs.Asking.{Words, client_served}
-use Rattle.kp_step.specs.Step.{Stepped, step}
+use Rattle.kp_step.specs.Step.{step}
 
 -- one of the requests that wait passes
 abbrev pub SomeWaits : List Waiting → (Waiting → Type 0) → Type 0

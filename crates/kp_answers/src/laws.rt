@@ -1,5 +1,7 @@
 //! The laws of what a client is answered. The contract of each function is a law; the function does nothing.
 
+ghost use Rattle.kp_answers.specs.Connects.{RefusedByNumber, ConnectsAreAnswered};
+ghost use Rattle.kp_answers.specs.Ended.{EndsAreCaused};
 ghost use Rattle.kp_answers.specs.Fronts.{FrontsHaveCauses, FrontsAreAnswered};
 ghost use Rattle.kp_answers.specs.Whence.{WritesAreAnswered};
 ghost use Rattle.kp_answers.specs.Refused.{RefusalsAreWhole};
@@ -47,4 +49,23 @@ pub fn packets_are_answers<I>()
 /// was given up for want of memory.
 pub fn refusals_are_whole<I>()
     ensures { RefusalsAreWhole I }
+{}
+
+/// At every event of every node in which of a connection that is over nothing waits, as in every run: a connection that
+/// wasn't over is gone only by its hangup, and is over only where it was given up for want of memory, the end of its
+/// session was answered, or one of these is there: of bytes a frame that is none, a word, a connect request that is
+/// refused or for which no leader is known; of an entry that its session was taken over or expired, or that the entry for
+/// which it waited gave it no session, or a frame that is none in what it kept meanwhile; of a message or a timeout that
+/// the term rose or an image was taken.
+pub fn ends_are_caused<I>()
+    ensures { EndsAreCaused I }
+{}
+
+/// `numbers`: a connect request is refused at once exactly where its session number is below 0 or above 2^62, or is
+/// another than 0 and comes with what is no password of 16 bytes. `answers`: at every event of every node whose bytes end
+/// the connect request of a new connection, one that is refused is told session 0, and its connection is over; where no
+/// leader is known the connection is over without a reply; else it waits, and nothing goes out.
+pub fn connects_are_answered<I>()
+    ensures numbers { RefusedByNumber }
+    ensures answers { ConnectsAreAnswered I }
 {}

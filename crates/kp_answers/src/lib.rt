@@ -5,6 +5,6 @@
 mod laws;
 
 pub use laws::{
-    fronts_have_causes, nothing_is_said_of_nothing, packets_are_answers, refusals_are_whole,
-    writes_are_answered,
+    connects_are_answered, ends_are_caused, fronts_have_causes, nothing_is_said_of_nothing,
+    packets_are_answers, refusals_are_whole, writes_are_answered,
 };

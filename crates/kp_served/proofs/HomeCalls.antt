@@ -1,5 +1,5 @@
 -- The calls of a node with its home are the tasks of a shared node.
-use Rattle.std.proofs.Common.{◌≡◌, inl, inr, ℕ, ◌+◌, ◌<◌, ◌≤◌, ◌^◌, List, Option, Some, None, Result, Ok, Err, refl, sym, ap, ◌∙◌, subst}
+use Rattle.std.proofs.Common.{◌≡◌, inl, inr, ℕ, ◌+◌, ◌<◌, ◌^◌, List, Option, Some, None, Result, Ok, Err, refl, sym, ap, ◌∙◌, subst}
 use Rattle.std.specs.Prelude.{◌↔◌, IfOk, OnOk, OnErr, IsErrOf}
 use Rattle.kp_io.specs.Crash.{Past, HasRoom}
 use Rattle.kp_io.specs.declared.disk.Disk.{Ghosts}
@@ -29,7 +29,7 @@ use Rattle.kp_kept.specs.Thinking.{Letter}
 use Rattle.kp_shared.specs.declared.kept.Life.{Life}
 use Rattle.kp_shared.specs.TaskSteps.{Flushes, Thinks}
 use Rattle.kp_served.specs.declared.home_node.HomeNode.{HomeNode}
-use Rattle.kp_served.specs.HomeNodes.{AtRest, Keeps, Moves, NodeKeeps, NodeMoves, NodeStays, Stays, Writes, life_of, node_life}
+use Rattle.kp_served.specs.HomeNodes.{NodeKeeps, NodeMoves, NodeStays, life_of, node_life}
 
 life_same : (a b : Life) → b.death ≡ a.death → b.faults ≡ a.faults → b.thought ≡ a.thought → b.kept ≡ a.kept → b ≡ a
 life_same a b d f t k = ap (λ (x : Option Why). record { death = x; faults = b.faults; thought = b.thought; kept = b.kept }) d

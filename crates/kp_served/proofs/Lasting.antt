@@ -2,7 +2,6 @@
 use Rattle.std.proofs.Common.{◌≡◌, ℕ, ◌<◌, ◌^◌, List, [], ◌∷◌, Option, Some, None, Ok, Err, sym, ap, ◌∙◌, subst, ⊎_elim}
 use Rattle.kp_io.specs.Crash.{Past, HasRoom}
 use Rattle.kp_io.specs.declared.disk.Disk.{Ghosts}
-use Rattle.kp_event.specs.declared.event.NodeEvent.{NodeEvent}
 use Rattle.kp_event.specs.declared.fail.KeptFail.TheVariants as fail
 use Rattle.kp_event.specs.declared.fail.Why.{Why}
 use Rattle.kp_raft.specs.declared.mail.Mail.{Mail}
@@ -22,7 +21,7 @@ use Rattle.kp_shared.specs.TaskLaws.{Histories}
 use Rattle.kp_shared.specs.TaskSteps.{Answered, IsTaskStep}
 use Rattle.kp_served.specs.declared.home_node.HomeNode.{HomeNode}
 use Rattle.kp_served.specs.HomeNodes.{AtRest, NodeKeeps, NodeMoves, NodeStays, Stays, node_life}
-use Rattle.kp_served.specs.HomeLaws.{AllFound, Done, HaveRoom, IsFound, IsFoundAt}
+use Rattle.kp_served.specs.HomeLaws.{AllFound, HaveRoom, IsFoundAt}
 
 abbrev IsNone : Option Why → Type 0
 IsNone None = Unit {0}

@@ -1,5 +1,6 @@
 -- What was flushed lasts.
 use Rattle.std.proofs.Common.{◌≡◌, ℕ, ◌<◌, ◌^◌, List, [], ◌∷◌, Option, Some, None, Ok, Err, sym, ap, ◌∙◌, subst, ⊎_elim}
+use Rattle.kp_turn.specs.History.{Runs}
 use Rattle.kp_io.specs.Crash.{Past, HasRoom}
 use Rattle.kp_io.specs.declared.disk.Disk.{Ghosts}
 use Rattle.kp_event.specs.declared.fail.KeptFail.TheVariants as fail
@@ -21,7 +22,7 @@ use Rattle.kp_shared.specs.TaskLaws.{Histories}
 use Rattle.kp_shared.specs.TaskSteps.{Answered, IsTaskStep}
 use Rattle.kp_served.specs.declared.home_node.HomeNode.{HomeNode}
 use Rattle.kp_served.specs.HomeNodes.{AtRest, NodeKeeps, NodeMoves, NodeStays, Stays, node_life}
-use Rattle.kp_served.specs.HomeLaws.{AllFound, HaveRoom, IsFoundAt}
+use Rattle.kp_served.specs.HomeLaws.{AllFound, bare, HaveRoom, IsFoundAt}
 
 abbrev IsNone : Option Why → Type 0
 IsNone None = Unit {0}
@@ -77,3 +78,15 @@ module _ {H : Type 0} {G : Ghosts H} (held : H → Option (List ℕ)) (past : H 
   pub flushed_lasts : Histories (NodeMoves {G = G} held past) (NodeStays {G = G} held past) (NodeKeeps {G = G} held past) (node_life {G = G} faults)
       (λ x ts. (f : Found) → KeepsUp held past x.kept f → HaveRoom x.kept ts → AllFound held past ts)
   flushed_lasts x ts r f k room = lasts x ts r (λ alive. (f, k)) room
+
+  module _ {S : Type 0} (node : S → HomeNode H G) where
+    bare_runs : (step : HomeNode H G → Task (Mail Snapshot) → Answered (Mail Snapshot) → HomeNode H G → Type 0) (x : S) (ts : List (Task (Mail Snapshot) × Answered (Mail Snapshot) × S))
+        → Runs (λ y t a z. step (node y) t a (node z)) x ts → Runs step (node x) (bare node ts)
+    bare_runs step x [] r = r
+    bare_runs step x (p ∷ ps) r = (r.0, bare_runs step p.2 ps r.1)
+
+    -- the same of a history of values that hold the node
+    pub held_lasts : (x : S) (ts : List (Task (Mail Snapshot) × Answered (Mail Snapshot) × S))
+        → Runs (λ y t a z. IsTaskStep (NodeMoves {G = G} held past) (NodeStays {G = G} held past) (NodeKeeps {G = G} held past) (node_life {G = G} faults) (node y) t a (node z)) x ts
+        → (f : Found) → KeepsUp held past (node x).kept f → HaveRoom (node x).kept (bare node ts) → AllFound held past (bare node ts)
+    held_lasts x ts r = flushed_lasts (node x) (bare node ts) (bare_runs (IsTaskStep (NodeMoves {G = G} held past) (NodeStays {G = G} held past) (NodeKeeps {G = G} held past) (node_life {G = G} faults)) x ts r)

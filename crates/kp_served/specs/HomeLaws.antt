@@ -42,3 +42,8 @@ module _ {H : Type 0} {G : Ghosts H} (held : H → Option (List ℕ)) (past : H 
 abbrev pub HaveRoom : {H : Type 0} {G : Ghosts H} → Kept H G → List (Done H G) → Type 0
 HaveRoom x [] = ⊤
 HaveRoom x (p ∷ ps) = HasRoom p.2.kept.home.disks.moments × (x.home.journal.head.generation < 2 ^ 62) × HaveRoom p.2.kept ps
+
+-- the history of a node that is held by other values
+abbrev pub bare : {H S : Type 0} {G : Ghosts H} → (S → HomeNode H G) → List (Task (Mail Snapshot) × Answered (Mail Snapshot) × S) → List (Done H G)
+bare node [] = []
+bare node (p ∷ ps) = (p.0, p.1, node p.2) ∷ bare node ps

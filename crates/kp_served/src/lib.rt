@@ -5,4 +5,4 @@ mod home_node;
 mod laws;
 
 pub use home_node::HomeNode;
-pub use laws::flushed_is_found;
+pub use laws::{count_found, flushed_is_found};

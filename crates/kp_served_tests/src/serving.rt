@@ -6,7 +6,7 @@ use kp_client_tests::frames::{CONNECT, CONNECTED, SET, SETS};
 use kp_disks::FaultyDisk;
 use kp_dispatch::{ConnEnd, Turned, accept, serve_connection, tick};
 use kp_io::{Disk, Four, MemoryClock, MemoryDisk, MemorySink, MemoryStream, OpenGate};
-use kp_served::HomeNode;
+use kp_served::{HomeNode, count_found};
 use kp_shared::{Kept, NodeSeat, SharedNode};
 use std::alloc::{AllocError, Global};
 use std::sync::Wait;
@@ -142,6 +142,24 @@ fn a_client_is_answered(rt: HostRuntime) -> Result<(), Fail> {
     let answers = joined(alloc, [CONNECTED, CREATED, SET].as_slice())?;
     let served = served(&rt, alloc, Four::blank(alloc))?;
     assert!(rt; was_answered(&served, answers.as_slice()));
+    Ok(())
+}
+
+// How many tasks a node was given that was only shared.
+fn counted<H: Disk + Drop>(alloc: Global, disks: Four<H>) -> Result<Option<u64>, AllocError> {
+    match shared(alloc, disks)? {
+        Some((node, seat)) => {
+            let mut seat = seat;
+            Ok(Some(count_found(&node, &mut seat)))
+        }
+        None => Ok(None),
+    }
+}
+
+#[test]
+fn a_new_node_was_given_no_task(rt: HostRuntime) -> Result<(), Fail> {
+    let count = counted(rt.alloc(), Four::blank(rt.alloc()))?;
+    assert!(rt; count == Some(0));
     Ok(())
 }
 

@@ -3,13 +3,14 @@ use Rattle.std.specs.Prelude.{⊤}
 use Rattle.kp_event.specs.declared.event.NodeEvent.{NodeEvent}
 use Rattle.kp_event.specs.declared.thought.Thought.{Thought}
 use Rattle.kp_shared.specs.declared.kept.Life.{Life}
+use Rattle.kp_shared.specs.Letters.{Letter}
 use Rattle.kp_worker_tests.specs.declared.parrot.Parrot.{Parrot}
-use Rattle.kp_worker_tests.specs.declared.letter.Letter.{Letter}
+use Rattle.kp_worker_tests.specs.declared.message.Message.{Message}
 
 abbrev pub life_of : Parrot → Life
 life_of x = record { death = x.death; faults = x.faults; thought = x.thought; kept = x.kept }
 
-abbrev pub any_move : Parrot → NodeEvent Letter → Thought Letter → Parrot → Type 0
+abbrev pub any_move : Parrot → NodeEvent Message → Thought (Letter Message) → Parrot → Type 0
 any_move x e t y = ⊤
 
 abbrev pub any_stay : Parrot → Parrot → Type 0

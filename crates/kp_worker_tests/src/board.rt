@@ -3,7 +3,7 @@ ghost use Rattle.std.specs.Prelude.{◌≡◌, ◌≤◌, ℕ, [], None, false, 
 ghost use Rattle.kp_lines.specs.Tables.{state_at};
 ghost use Rattle.kp_worker.specs.Outside.{HeardWithin};
 
-use crate::letter::Letter;
+use crate::message::Message;
 use kp_event::{Said, Standing};
 use kp_io::Failed;
 use kp_lines::{Past, Port, Table, Tended, Wakes};
@@ -259,15 +259,15 @@ pub fn was_handed(board: &Board, conn: u64, bytes: &[u8]) -> bool {
 
 /// Links on which nothing comes but one message.
 #[derive(Drop)]
-pub struct OneLetter {
-    pub letter: Option<Letter>,
+pub struct OneMessage {
+    pub message: Option<Message>,
 }
 
-impl Inbox<Letter> for OneLetter {
+impl Inbox<Message> for OneMessage {
     ghost taken = { λ b. λ c. None };
 
-    fn take<R: Wait>(&mut self, _rt: &R) -> Option<Arrived<Letter>> {
-        match self.letter.take() {
+    fn take<R: Wait>(&mut self, _rt: &R) -> Option<Arrived<Message>> {
+        match self.message.take() {
             Some(mail) => Some(Arrived { from: 2, mail }),
             None => None,
         }

@@ -4,7 +4,7 @@ ghost use Rattle.kp_event.specs.Kinds.{row_of_kind, row_of_said};
 ghost use Rattle.kp_shared.specs.TaskSteps.{Flushes, Thinks};
 ghost use Rattle.kp_worker_tests.specs.Echoes.{any_move, any_stay, life_of};
 
-use crate::letter::Letter;
+use crate::message::Message;
 use kp_event::{FedWord, KeptFail, NodeEvent, NodeEventKind, OutPiece, Said, Standing, Thought};
 use kp_io::Gate;
 use kp_model::{Bytes, Items};
@@ -56,7 +56,7 @@ fn say(
     alloc: Global,
     one: &mut Vec<u8>,
     two: &mut Vec<u8>,
-    kind: NodeEventKind<Letter>,
+    kind: NodeEventKind<Message>,
 ) -> Result<Said, AllocError>
     ensures { IfOk result (λ said. row_of_said said ≡ row_of_kind kind) }
 {
@@ -81,11 +81,10 @@ fn say(
 }
 
 // The messages of an event.
-fn mail_of(alloc: Global, beat: bool) -> Result<Items<Letter>, AllocError> {
+fn mail_of(alloc: Global, beat: bool) -> Result<Items<(u8, Message)>, AllocError> {
     let mut mail = Vec::new(alloc);
     if beat {
-        let letter = Letter { to: 2, feeds: true };
-        if mail.push(letter).is_err() {
+        if mail.push((2, Message { feeds: true })).is_err() {
             return Err(AllocError);
         }
     }
@@ -93,7 +92,7 @@ fn mail_of(alloc: Global, beat: bool) -> Result<Items<Letter>, AllocError> {
 }
 
 impl Kept for Echo {
-    type Mail = Letter;
+    type Mail = Message;
 
     ghost life = { life_of };
 
@@ -101,11 +100,15 @@ impl Kept for Echo {
 
     ghost stays = { any_stay };
 
+    ghost keeps = { any_stay };
+
     ghost number = { λ x. 1 };
 
     ghost members = { λ x. 3 };
 
-    fn think(&mut self, event: NodeEvent<Letter>) -> Result<Thought<Letter>, KeptFail>
+    ghost feeds = { λ message. message.feeds };
+
+    fn think(&mut self, event: NodeEvent<Message>) -> Result<Thought<(u8, Message)>, KeptFail>
         requires { self.old.thought < 2 ^ 62 }
         ensures { Thinks any_move any_stay life_of self.old event result self.new }
     {
@@ -136,7 +139,7 @@ impl Kept for Echo {
     }
 
     fn flush(&mut self) -> Result<u64, KeptFail>
-        ensures { Flushes any_stay life_of self.old result self.new }
+        ensures { Flushes any_stay any_stay life_of self.old result self.new }
     {
         self.kept = self.thought;
         Ok(self.kept)
@@ -148,6 +151,10 @@ impl Kept for Echo {
 
     fn members(&self) -> u8 {
         3
+    }
+
+    fn feeds_log(message: &Message) -> bool {
+        message.feeds
     }
 }
 

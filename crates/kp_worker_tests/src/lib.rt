@@ -3,7 +3,7 @@
 
 mod board;
 mod echo;
-mod letter;
+mod message;
 mod pair;
 mod parrot;
 #[cfg(test)]
@@ -12,9 +12,9 @@ mod tests;
 mod whole;
 
 pub use board::{
-    Always, Board, Handed, Happening, Happenings, OneLetter, Pieces, Visitor, board_of, was_handed,
+    Always, Board, Handed, Happening, Happenings, OneMessage, Pieces, Visitor, board_of, was_handed,
 };
 pub use echo::{Echo, Holds};
-pub use letter::Letter;
+pub use message::Message;
 pub use pair::serve_two;
 pub use parrot::Parrot;

@@ -4,7 +4,7 @@ ghost use Rattle.kp_event.specs.Kinds.{row_of_kind, row_of_said};
 ghost use Rattle.kp_shared.specs.TaskSteps.{Flushes, Thinks};
 ghost use Rattle.kp_worker_tests.specs.Parrots.{any_move, any_stay, life_of};
 
-use crate::letter::Letter;
+use crate::message::Message;
 use kp_event::{
     FedWord, KeptFail, NodeEvent, NodeEventKind, OutPiece, Said, Standing, Thought, Why,
 };
@@ -85,7 +85,7 @@ fn drain(
 fn say(
     alloc: Global,
     buffers: &mut Vec<Vec<u8>>,
-    kind: NodeEventKind<Letter>,
+    kind: NodeEventKind<Message>,
 ) -> Result<Said, AllocError>
     ensures { IfOk result (λ said. row_of_said said ≡ row_of_kind kind) }
 {
@@ -110,7 +110,7 @@ fn say(
 }
 
 // The connection for which an event makes something ready.
-fn named(kind: &NodeEventKind<Letter>) -> Option<u64> {
+fn named(kind: &NodeEventKind<Message>) -> Option<u64> {
     match kind {
         NodeEventKind::Client { conn, .. } => Some(*conn),
         _ => None,
@@ -127,7 +127,7 @@ fn ready_of(alloc: Global, conn: Option<u64>) -> Result<Items<u64>, AllocError> 
 }
 
 impl Kept for Parrot {
-    type Mail = Letter;
+    type Mail = Message;
 
     ghost life = { life_of };
 
@@ -135,11 +135,15 @@ impl Kept for Parrot {
 
     ghost stays = { any_stay };
 
+    ghost keeps = { any_stay };
+
     ghost number = { λ x. 1 };
 
     ghost members = { λ x. 1 };
 
-    fn think(&mut self, event: NodeEvent<Letter>) -> Result<Thought<Letter>, KeptFail>
+    ghost feeds = { λ message. message.feeds };
+
+    fn think(&mut self, event: NodeEvent<Message>) -> Result<Thought<(u8, Message)>, KeptFail>
         requires { self.old.thought < 2 ^ 62 }
         ensures { Thinks any_move any_stay life_of self.old event result self.new }
     {
@@ -173,7 +177,7 @@ impl Kept for Parrot {
     }
 
     fn flush(&mut self) -> Result<u64, KeptFail>
-        ensures { Flushes any_stay life_of self.old result self.new }
+        ensures { Flushes any_stay any_stay life_of self.old result self.new }
     {
         if let Some(why) = self.death {
             return Err(KeptFail::Dead(why));
@@ -197,5 +201,9 @@ impl Kept for Parrot {
 
     fn members(&self) -> u8 {
         1
+    }
+
+    fn feeds_log(message: &Message) -> bool {
+        message.feeds
     }
 }

@@ -1,4 +1,4 @@
-use crate::{Echo, Holds, Letter, serve_two};
+use crate::{Echo, Holds, Message, serve_two};
 use kp_dispatch::{ConnEnd, Turned, accept, carry, tick};
 use kp_io::{MemoryClock, MemorySink, MemoryStream};
 use kp_links::Links;
@@ -50,10 +50,7 @@ fn a_node_is_ticked_carried_to_and_stopped(rt: HostRuntime) -> Result<(), Fail> 
             Turned::Empty
         )
     );
-    assert!(rt;
-        link.send(&rt, &mut at, Letter { to: 1, feeds: true })
-            .is_ok()
-    );
+    assert!(rt; link.send(&rt, &mut at, Message { feeds: true }).is_ok());
     assert!(rt;
         matches!(
             carry(&rt, alloc, &mut seat, &node, &link, &mut at, &clock),

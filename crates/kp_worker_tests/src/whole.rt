@@ -1,4 +1,4 @@
-use crate::{Always, Board, Happening, Letter, OneLetter, Parrot, board_of, was_handed};
+use crate::{Always, Board, Happening, Message, OneMessage, Parrot, board_of, was_handed};
 use kp_io::MemoryClock;
 use kp_shared::SharedNode;
 use kp_worker::{NodeEnd, serve_node};
@@ -15,8 +15,8 @@ fn serve<R: Wait>(
 ) -> Result<(Board, NodeEnd, u64), Fail> {
     let (node, mut seat) = SharedNode::new(alloc, Parrot::new(alloc, flushes))?;
     let mut board = board_of(alloc, Vec::from_slice(alloc, list)?);
-    let mut inbox = OneLetter {
-        letter: Some(Letter { to: 1, feeds: true }),
+    let mut inbox = OneMessage {
+        message: Some(Message { feeds: true }),
     };
     let mut pace = Always {
         leaders: 0,
@@ -133,7 +133,7 @@ fn a_worker_is_stopped(rt: HostRuntime) -> Result<(), Fail> {
         &mut seat,
         &node,
         &mut board,
-        &mut OneLetter { letter: None },
+        &mut OneMessage { message: None },
         &MemoryClock::new(7),
         &mut pace,
     );

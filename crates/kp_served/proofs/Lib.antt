@@ -1,0 +1,2 @@
+pub mod HomeCalls
+pub mod Lasting

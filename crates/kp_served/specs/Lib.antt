@@ -1,0 +1,2 @@
+pub mod HomeNodes
+pub mod HomeLaws

@@ -230,13 +230,15 @@ module _ (words : Words) (im : Images Snapshot) where
 
 -- ---- whole scripts
 
+-- what is done behind these texts
+abbrev pub then_done : List (List ℕ) → Turn → Turn
+then_done texts (Err full) = Err full
+then_done texts (Ok d) = Ok (record { texts = texts ++ d.texts; next = d.next })
+
 module _ (words : Words) (im : Images Snapshot) where
   abbrev pub plays_on : List ScriptLine → Stage → Turn
   plays_on [] st = Ok (record { texts = []; next = st })
-  plays_on (l ∷ ls) st = elim (turn words im st l) [
-    | Err f ↦ Err f
-    | Ok d ↦ elim (plays_on ls d.next) [ Err f ↦ Err f | Ok e ↦ Ok (record { texts = d.texts ++ e.texts; next = e.next }) ]
-  ]
+  plays_on (l ∷ ls) st = elim (turn words im st l) [ Err full ↦ Err full | Ok d ↦ then_done d.texts (plays_on ls d.next) ]
 
   -- what these lines print, one behind the other, and what they leave
   unfoldable pub plays : Stage → List ScriptLine → Turn

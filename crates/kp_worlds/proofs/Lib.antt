@@ -1,0 +1,6 @@
+mod Lists
+mod Effects
+mod Sequences
+mod Members
+mod Lines
+mod Plays

@@ -1,12 +1,13 @@
 -- What is thought before a drain drains nothing.
-use Rattle.std.proofs.Common.{◌≡◌, ◌⊎◌, inl, inr, ℕ, List, [], ◌∷◌, ◌++◌, sym, refl, ap, ◌∙◌, subst, ⊎_elim, arith}
-use Rattle.std.specs.Prelude.{Option, Some, None, Result, Ok, Err, ⊤}
+use Rattle.std.proofs.Common.{◌≡◌, ℕ, List, [], ◌∷◌, ◌++◌, sym, refl, ap, ◌∙◌, subst, ⊎_elim, arith}
+use Rattle.std.specs.Prelude.{Option, Some, None, Ok, Err, ⊤}
 use Rattle.kp_event.specs.declared.event.NodeEventKind.{NodeEventKind}
 use Rattle.kp_event.specs.declared.event.NodeEventKind.TheVariants as kind
 use Rattle.kp_event.specs.declared.thought.Thought.{Thought}
 use Rattle.kp_event.specs.declared.said.Said.{Said}
 use Rattle.kp_event.specs.declared.said.Said.TheVariants as said
 use Rattle.kp_event.specs.Kinds.{row_of_kind, row_of_said}
+use Rattle.kp_shared.specs.Letters.{Letter}
 use Rattle.kp_shared.specs.declared.plan.Step.{Step}
 use Rattle.kp_shared.specs.declared.plan.Step.TheVariants as step
 use Rattle.kp_shared.specs.declared.task.Task.TheVariants as task
@@ -55,13 +56,13 @@ module _ {M : Type 0} where
 
   quiet_more : (ds : List (Did M)) → Each IsMore ds → Each Fitting ds → Each IsQuiet (thoughts_in ds)
   quiet_more [] m fits = tt
-  quiet_more (d ∷ ds) m fits = subst (λ (l : List (Thought M)). Each IsQuiet l) (sym (thoughts_both (d ∷ []) ds))
+  quiet_more (d ∷ ds) m fits = subst (λ (l : List (Thought (Letter M))). Each IsQuiet l) (sym (thoughts_both (d ∷ []) ds))
       (each_both IsQuiet (thoughts_in (d ∷ [])) (thoughts_in ds) (quiet_think kind.CommitOne d m.0.0 (λ e. absurd (omega arith)) fits.0) (quiet_more ds m.1 fits.1))
 
   quiet_run : (ds : List (Did M)) → IsCommitRun ds → Each Fitting ds → Each IsQuiet (thoughts_in ds)
   quiet_run ds r fits =
       let parts = each_split Fitting r.0 (r.1 ∷ []) (subst (λ (l : List (Did M)). Each Fitting l) r.2 fits) in
-      subst (λ (l : List (Thought M)). Each IsQuiet l) (sym (ap thoughts_in r.2 ∙ thoughts_both r.0 (r.1 ∷ [])))
+      subst (λ (l : List (Thought (Letter M))). Each IsQuiet l) (sym (ap thoughts_in r.2 ∙ thoughts_both r.0 (r.1 ∷ [])))
       (each_both IsQuiet (thoughts_in r.0) (thoughts_in (r.1 ∷ [])) (quiet_more r.0 r.3 parts.0) (quiet_think kind.CommitOne r.1 r.4 (λ e. absurd (omega arith)) parts.1.0))
 
   quiet_nothing : (ds : List (Did M)) → ds ≡ [] → Each IsQuiet (thoughts_in ds)
@@ -84,13 +85,13 @@ module _ {M : Type 0} where
   goes_quiet [] ds q g fits = quiet_nothing ds g
   goes_quiet (p ∷ ps) ds q g fits =
       let parts = each_split Fitting g.0 g.1 (subst (λ (l : List (Did M)). Each Fitting l) g.2 fits) in
-      subst (λ (l : List (Thought M)). Each IsQuiet l) (sym (ap thoughts_in g.2 ∙ thoughts_both g.0 g.1))
+      subst (λ (l : List (Thought (Letter M))). Each IsQuiet l) (sym (ap thoughts_in g.2 ∙ thoughts_both g.0 g.1))
       (each_both IsQuiet (thoughts_in g.0) (thoughts_in g.1) (takes_quiet p g.0 q.0 g.3 parts.0) (goes_quiet ps g.1 q.1 g.4 parts.1))
 
   pub front_quiet : (conn : ℕ) (p : Option (List ℕ)) (ds : List (Did M)) → Goes (front_plan conn p) ds → Each Fitting ds → Each IsQuiet (thoughts_in ds)
   front_quiet conn None ds g fits = goes_quiet [] ds tt g fits
   front_quiet conn (Some bytes) ds g fits = goes_quiet (front_plan conn (Some bytes)) ds ((λ e. absurd (omega arith)), (tt, (tt, tt))) g fits
 
-  pub quiet_bytes : (ts : List (Thought M)) → Each IsQuiet ts → bytes_of ts ≡ []
+  pub quiet_bytes : (ts : List (Thought (Letter M))) → Each IsQuiet ts → bytes_of ts ≡ []
   quiet_bytes [] q = refl
   quiet_bytes (t ∷ ts) q = ap (λ (l : List ℕ). l ++ bytes_of ts) q.0 ∙ quiet_bytes ts q.1

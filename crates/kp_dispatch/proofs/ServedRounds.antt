@@ -1,5 +1,5 @@
 -- Turns behind turns, and the end of a connection.
-use Rattle.std.proofs.Common.{◌≡◌, ◌⊎◌, inl, inr, ℕ, List, [], ◌∷◌, ◌++◌, sym, refl, ap, ◌∙◌, subst, ⊎_elim, append_assoc}
+use Rattle.std.proofs.Common.{◌≡◌, inl, inr, ℕ, List, [], ◌∷◌, ◌++◌, sym, refl, ap, ◌∙◌, subst, ⊎_elim, append_assoc}
 use Rattle.std.specs.Prelude.{◌+◌, Bool, true, Option, Some, None, Result, Ok, Err}
 use Rattle.kp_turn.specs.declared.stop.StopView.{StopView}
 use Rattle.kp_turn.specs.TurnSeats.{view}
@@ -7,6 +7,7 @@ use Rattle.kp_turn.specs.StopSeats.{stop_view}
 use Rattle.kp_turn.specs.StopRule.{with_read}
 use Rattle.kp_event.specs.declared.event.NodeEventKind.TheVariants as kind
 use Rattle.kp_event.specs.declared.thought.Thought.{Thought}
+use Rattle.kp_shared.specs.Letters.{Letter}
 use Rattle.kp_io.specs.Faults.{one_more}
 use Rattle.kp_io.specs.Streams.{Piece, Tells}
 use Rattle.kp_io.specs.Streams as piece
@@ -19,7 +20,6 @@ use Rattle.kp_shared.specs.Plans.{IsCut, IsTurn}
 use Rattle.kp_shared.specs.Nodes.{Causes, Does, ThinkAsks, TurnSeatIn, ViewIn, Whole}
 use Rattle.kp_shared.specs.Posts.{Posts}
 use Rattle.kp_shared.specs.Sharing.{NodeSeatIn}
-use Rattle.kp_shared.specs.Turns.{TurnBroken}
 use Rattle.kp_shared.proofs.Lists.{append_nil, bytes_both, does_both, does_none, each_both, flushed_after, mails_both, waiting_both}
 use Rattle.kp_shared.proofs.Mailing.{posts_more, posts_none}
 use Rattle.kp_dispatch.specs.declared.ends.ConnEnd.{ConnEnd}
@@ -29,7 +29,7 @@ use Rattle.kp_dispatch.specs.Ends.{end_for}
 use Rattle.kp_dispatch.specs.Output.{WroteAll, WrotePart}
 use Rattle.kp_dispatch.specs.Plans.{plan_for, round_plan}
 use Rattle.kp_dispatch.specs.Rounds.{LeaveTells, RoundCut, RoundDone, RoundTells, SaysBad, SaysNoneBad, SaysOver, TurnTells, thoughts_of}
-use Rattle.kp_dispatch.specs.Serving.{EndsCut, EndsWhole, Goes, ServedSo, ServedWhole, Serves, TakeTells, Turns, WroteAt, piece_at}
+use Rattle.kp_dispatch.specs.Serving.{EndsCut, EndsWhole, Goes, ServedSo, ServedWhole, TakeTells, Turns, WroteAt, piece_at}
 
 wrote_none : (a : Option (List ℕ)) → WroteAll a a []
 wrote_none None = tt
@@ -69,11 +69,11 @@ wrote_at end.Worn a b all w = w
 wrote_at end.NoMemory a b all w = w
 
 module _ {M : Type 0} where
-  over_behind : (ts us : List (Thought M)) → SaysOver us → SaysOver (ts ++ us)
-  over_behind ts us s = (ts ++ s.0, s.1, s.2, ap (λ (l : List (Thought M)). ts ++ l) s.3 ∙ sym (append_assoc ts s.0 (s.1 ∷ s.2)), s.4)
+  over_behind : (ts us : List (Thought (Letter M))) → SaysOver us → SaysOver (ts ++ us)
+  over_behind ts us s = (ts ++ s.0, s.1, s.2, ap (λ (l : List (Thought (Letter M))). ts ++ l) s.3 ∙ sym (append_assoc ts s.0 (s.1 ∷ s.2)), s.4)
 
-  bad_behind : (at : ℕ) (ts us : List (Thought M)) → SaysBad at us → SaysBad at (ts ++ us)
-  bad_behind at ts us s = (ts ++ s.0, s.1, s.2, ap (λ (l : List (Thought M)). ts ++ l) s.3 ∙ sym (append_assoc ts s.0 (s.1 ∷ s.2)), s.4)
+  bad_behind : (at : ℕ) (ts us : List (Thought (Letter M))) → SaysBad at us → SaysBad at (ts ++ us)
+  bad_behind at ts us s = (ts ++ s.0, s.1, s.2, ap (λ (l : List (Thought (Letter M))). ts ++ l) s.3 ∙ sym (append_assoc ts s.0 (s.1 ∷ s.2)), s.4)
 
   turns_more : (conn : ℕ) (ps : List Piece) (p : Piece) (ds es : List (Did M)) → Turns conn ps ds → IsTurn (plan_for conn p) es → Turns conn (ps ++ p ∷ []) (ds ++ es)
   turns_more conn [] p ds es t u = (es, [], ap (λ (l : List (Did M)). l ++ es) t ∙ sym (append_nil es), u, refl)
@@ -87,16 +87,16 @@ module _ {S M : Type 0} (may : ℕ → Type 0) where
   whole_none : (v : ViewIn S M) → Whole may v v [] []
   whole_none v = record { does = does_none v; times = tt; went = tt; leaves = refl; settled = refl }
 
-  leaves_both : (u v w : ViewIn S M) (ts us : List (Thought M)) (ds es : List (Did M)) → Whole may u v ts ds → Whole may v w us es → flushed [] (ds ++ es) ≡ flushed [] ds ++ us
-  leaves_both u v w ts us ds es a b = flushed_after ds es a.settled ∙ ap (λ (l : List (Thought M)). flushed [] ds ++ l) b.leaves
+  leaves_both : (u v w : ViewIn S M) (ts us : List (Thought (Letter M))) (ds es : List (Did M)) → Whole may u v ts ds → Whole may v w us es → flushed [] (ds ++ es) ≡ flushed [] ds ++ us
+  leaves_both u v w ts us ds es a b = flushed_after ds es a.settled ∙ ap (λ (l : List (Thought (Letter M))). flushed [] ds ++ l) b.leaves
 
-  whole_both : (u v w : ViewIn S M) (ts us : List (Thought M)) (ds es : List (Did M)) → Whole may u v ts ds → Whole may v w us es → Whole may u w (flushed [] (ds ++ es)) (ds ++ es)
+  whole_both : (u v w : ViewIn S M) (ts us : List (Thought (Letter M))) (ds es : List (Did M)) → Whole may u v ts ds → Whole may v w us es → Whole may u w (flushed [] (ds ++ es)) (ds ++ es)
   whole_both u v w ts us ds es a b = record {
     does = does_both u v w ds es a.does b.does;
     times = each_both (InTime may) ds es a.times b.times;
     went = each_both Went ds es a.went b.went;
     leaves = refl;
-    settled = waiting_both [] ds es ∙ ap (λ (l : List (Thought M)). waiting l es) a.settled ∙ b.settled;
+    settled = waiting_both [] ds es ∙ ap (λ (l : List (Thought (Letter M))). waiting l es) a.settled ∙ b.settled;
   }
 
   -- why a turn was cut is why the connection ends
@@ -106,23 +106,23 @@ module _ {S M : Type 0} (may : ℕ → Type 0) where
       (λ y. inr (⊎_elim (λ x. inl (is ∙ ap end_for x.0, x.1, x.2)) (λ x. inr (is ∙ ap end_for x.0, x.1)) y))
       c
 
-  module _ (conn : ℕ) (held held' : Option (List ℕ)) (faults faults' : ℕ) (receiver : M → ℕ) (s s' : NodeSeatIn S M) where
-    turned : (p : Option (List ℕ)) (r : Result (Unit {0}) ConnEnd) → RoundDone may conn held held' faults faults' receiver s s' p r → TurnTells may conn held held' faults faults' receiver s s' p r
+  module _ (conn : ℕ) (held held' : Option (List ℕ)) (faults faults' : ℕ) (s s' : NodeSeatIn S M) where
+    turned : (p : Option (List ℕ)) (r : Result (Unit {0}) ConnEnd) → RoundDone may conn held held' faults faults' s s' p r → TurnTells may conn held held' faults faults' s s' p r
     turned p (Ok u) d = d
     turned p (Err e) d = inl d
 
-    pub round_left : (p : Option (List ℕ)) (round : Round M) (r : Result (Unit {0}) ConnEnd) → RoundTells may conn p (Ok round) s.turn s'.turn → Posts receiver (mails_of (thoughts_of round)) s.links s'.links
-        → LeaveTells held held' faults faults' (thoughts_of round) r → s'.stop ≡ s.stop → TurnTells may conn held held' faults faults' receiver s s' p r
+    pub round_left : (p : Option (List ℕ)) (round : Round M) (r : Result (Unit {0}) ConnEnd) → RoundTells may conn p (Ok round) s.turn s'.turn → Posts (mails_of (thoughts_of round)) s.links s'.links
+        → LeaveTells held held' faults faults' (thoughts_of round) r → s'.stop ≡ s.stop → TurnTells may conn held held' faults faults' s s' p r
     round_left p round r t posts left stop = turned p r (thoughts_of round, t.1, t.2, posts, left, stop)
 
   -- from the beginning of the call
-  module _ (conn : ℕ) (told : Option (List Piece)) (ended : Bool) (reads : ℕ) (held : Option (List ℕ)) (writes : ℕ) (receiver : M → ℕ) (s : NodeSeatIn S M) where
-    pub goes_none : Goes may conn told told ended ended reads reads held held writes writes receiver s s [] []
+  module _ (conn : ℕ) (told : Option (List Piece)) (ended : Bool) (reads : ℕ) (held : Option (List ℕ)) (writes : ℕ) (s : NodeSeatIn S M) where
+    pub goes_none : Goes may conn told told ended ended reads reads held held writes writes s s [] []
     goes_none = record {
       tells = tells_none told;
       turns = refl;
       did = whole_none (view s.turn);
-      posts = posts_none receiver s.links;
+      posts = posts_none s.links;
       wrote = wrote_none held;
       none_bad = tt;
       stop = refl;
@@ -133,16 +133,16 @@ module _ {S M : Type 0} (may : ℕ → Type 0) where
     -- at a moment of the call
     module _ (told1 : Option (List Piece)) (ended1 : Bool) (reads1 : ℕ) (held1 : Option (List ℕ)) (writes1 : ℕ) (s1 : NodeSeatIn S M) (taken : List Piece) (ds : List (Did M)) where
       abbrev pub GoesNow : Type 0
-      GoesNow = Goes may conn told told1 ended ended1 reads reads1 held held1 writes writes1 receiver s s1 taken ds
+      GoesNow = Goes may conn told told1 ended ended1 reads reads1 held held1 writes writes1 s s1 taken ds
 
       -- the stop word was looked at
       pub goes_read : GoesNow → (s2 : NodeSeatIn S M) → s2.turn ≡ s1.turn → s2.links ≡ s1.links → stop_view s2.stop ≡ stop_view s1.stop
-          → Goes may conn told told1 ended ended1 reads reads1 held held1 writes writes1 receiver s s2 taken ds
+          → Goes may conn told told1 ended ended1 reads reads1 held held1 writes writes1 s s2 taken ds
       goes_read h s2 turn links stop = record {
         tells = h.tells;
         turns = h.turns;
         did = subst (λ (t : TurnSeatIn S M). Whole may (view s.turn) (view t) (flushed [] ds) ds) (sym turn) h.did;
-        posts = subst (λ l. Posts receiver (mails_of (flushed [] ds)) s.links l) (sym links) h.posts;
+        posts = subst (λ l. Posts (mails_of (flushed [] ds)) s.links l) (sym links) h.posts;
         wrote = h.wrote;
         none_bad = h.none_bad;
         stop = stop ∙ h.stop;
@@ -154,7 +154,7 @@ module _ {S M : Type 0} (may : ℕ → Type 0) where
       ends_whole : GoesNow → (e : ConnEnd) (last : List Piece) (told2 : Option (List Piece)) (ended2 : Bool) (reads2 : ℕ) (s2 : NodeSeatIn S M) → Tells told1 told2 last
           → view s2.turn ≡ view s1.turn → s2.links ≡ s1.links → (stop_view s2.stop).sets ≡ (stop_view s1.stop).sets → (stop_view s2.stop).splits ≡ (stop_view s1.stop).splits
           → EndsWhole e last (flushed [] ds) ended2 reads reads2 writes writes1 (stop_view s.stop).reads (stop_view s2.stop).reads
-          → ServedSo may conn told told2 ended ended2 reads reads2 held held1 writes writes1 receiver s s2 e
+          → ServedSo may conn told told2 ended ended2 reads reads2 held held1 writes writes1 s s2 e
       ends_whole h e last told2 ended2 reads2 s2 tells turn links sets splits why = (
         taken,
         last,
@@ -166,7 +166,7 @@ module _ {S M : Type 0} (may : ℕ → Type 0) where
           does = subst (λ (v : ViewIn S M). Does (view s.turn) v (ds ++ [])) (sym turn) (subst (λ (l : List (Did M)). Does (view s.turn) (view s1.turn) l) (sym (append_nil ds)) h.did.does);
           times = subst (λ (l : List (Did M)). Each (InTime may) l) (sym (append_nil ds)) h.did.times;
           went = h.did.went;
-          posts = subst (λ l. Posts receiver (mails_of (flushed [] ds)) s.links l) (sym links) h.posts;
+          posts = subst (λ l. Posts (mails_of (flushed [] ds)) s.links l) (sym links) h.posts;
           wrote = wrote_at e held held1 (bytes_of (flushed [] ds)) h.wrote;
           stop = (sets ∙ ap (λ (v : StopView). v.sets) h.stop, splits ∙ ap (λ (v : StopView). v.splits) h.stop);
           ends = inl (refl, why);
@@ -174,13 +174,13 @@ module _ {S M : Type 0} (may : ℕ → Type 0) where
       )
 
       pub serves_stopped : GoesNow → (s2 : NodeSeatIn S M) → s2.turn ≡ s1.turn → s2.links ≡ s1.links → stop_view s2.stop ≡ with_read true (stop_view s1.stop)
-          → ServedSo may conn told told1 ended ended1 reads reads1 held held1 writes writes1 receiver s s2 end.Stopped
+          → ServedSo may conn told told1 ended ended1 reads reads1 held held1 writes writes1 s s2 end.Stopped
       serves_stopped h s2 turn links stop = ends_whole h end.Stopped [] told1 ended1 reads1 s2 (tells_none told1) (ap view turn) links (ap (λ (v : StopView). v.sets) stop) (ap (λ (v : StopView). v.splits) stop)
           (refl, ap (λ (v : StopView). v.reads) stop ∙ ap (λ (v : StopView). v.reads + 1) h.stop)
 
       -- the stream ended or failed, or its piece found no memory
       pub serves_took : GoesNow → (told2 : Option (List Piece)) (ended2 : Bool) (reads2 : ℕ) (e : ConnEnd) → TakeTells told1 told2 ended1 ended2 reads1 reads2 (Err e)
-          → ServedSo may conn told told2 ended ended2 reads reads2 held held1 writes writes1 receiver s s1 e
+          → ServedSo may conn told told2 ended ended2 reads reads2 held held1 writes writes1 s s1 e
       serves_took h told2 ended2 reads2 end.Ended t = ends_whole h end.Ended (piece.End ∷ []) told2 ended2 reads2 s1 t.0 refl refl refl refl (h.none_bad, inl (refl, t.1))
       serves_took h told2 ended2 reads2 end.NoMemory t = ends_whole h end.NoMemory (piece.Bytes t.0.0 ∷ []) told2 ended2 reads2 s1 t.0.1 refl refl refl refl (inr (t.0.0, refl))
       serves_took h told2 ended2 reads2 end.ReadFault t = ends_whole h end.ReadFault [] told2 ended2 reads2 s1 t.0 refl refl refl refl (refl, t.1 ∙ ap one_more h.no_read_fault)
@@ -193,8 +193,8 @@ module _ {S M : Type 0} (may : ℕ → Type 0) where
 
       -- one answer more of the stream, and one turn more
       module _ (told2 : Option (List Piece)) (ended2 : Bool) (reads2 : ℕ) (held2 : Option (List ℕ)) (writes2 : ℕ) (s2 : NodeSeatIn S M) (p : Option (List ℕ)) where
-        pub goes_round : GoesNow → Tells told1 told2 (piece_at p ∷ []) → reads2 ≡ reads1 → RoundDone may conn held1 held2 writes1 writes2 receiver s1 s2 p (Ok tt)
-            → (all : List Piece) × (es : List (Did M)) × Goes may conn told told2 ended ended2 reads reads2 held held2 writes writes2 receiver s s2 all es
+        pub goes_round : GoesNow → Tells told1 told2 (piece_at p ∷ []) → reads2 ≡ reads1 → RoundDone may conn held1 held2 writes1 writes2 s1 s2 p (Ok tt)
+            → (all : List Piece) × (es : List (Did M)) × Goes may conn told told2 ended ended2 reads reads2 held held2 writes writes2 s s2 all es
         goes_round h tells quiet d =
             let ts = d.0 in let es = d.1 in let w = d.2.1 in
             let out = leaves_both (view s.turn) (view s1.turn) (view s2.turn) (flushed [] ds) ts ds es h.did w in (
@@ -204,9 +204,9 @@ module _ {S M : Type 0} (may : ℕ → Type 0) where
                 tells = tells_both told told1 told2 taken (piece_at p ∷ []) h.tells tells;
                 turns = turns_more conn taken (piece_at p) ds es h.turns (subst (λ (l : List (Step M)). IsTurn l es) (plan_at conn p) d.2.0);
                 did = whole_both (view s.turn) (view s1.turn) (view s2.turn) (flushed [] ds) ts ds es h.did w;
-                posts = subst (λ (l : List M). Posts receiver l s.links s2.links) (sym (ap mails_of out ∙ mails_both (flushed [] ds) ts)) (posts_more receiver (mails_of (flushed [] ds)) (mails_of ts) s.links s1.links s2.links h.posts d.3);
+                posts = subst (λ (l : List (Letter M)). Posts l s.links s2.links) (sym (ap mails_of out ∙ mails_both (flushed [] ds) ts)) (posts_more (mails_of (flushed [] ds)) (mails_of ts) s.links s1.links s2.links h.posts d.3);
                 wrote = subst (λ (l : List ℕ). WroteAll held held2 l) (sym (ap bytes_of out ∙ bytes_both (flushed [] ds) ts)) (wrote_both held held1 held2 (bytes_of (flushed [] ds)) (bytes_of ts) h.wrote d.4.0);
-                none_bad = subst (λ (l : List (Thought M)). SaysNoneBad l) (sym out) (each_both (λ (t : Thought M). bad_of t.said ≡ None) (flushed [] ds) ts h.none_bad d.4.2);
+                none_bad = subst (λ (l : List (Thought (Letter M))). SaysNoneBad l) (sym out) (each_both (λ (t : Thought (Letter M)). bad_of t.said ≡ None) (flushed [] ds) ts h.none_bad d.4.2);
                 stop = ap stop_view d.5 ∙ h.stop;
                 no_read_fault = quiet ∙ h.no_read_fault;
                 no_write_fault = d.4.1 ∙ h.no_write_fault;
@@ -214,10 +214,10 @@ module _ {S M : Type 0} (may : ℕ → Type 0) where
             )
 
         -- the turn is whole, and the connection ends for what it said or for its output
-        ends_round : GoesNow → Tells told1 told2 (piece_at p ∷ []) → (e : ConnEnd) (ts : List (Thought M)) (es : List (Did M)) → IsTurn (round_plan conn p) es → Whole may (view s1.turn) (view s2.turn) ts es
-            → Posts receiver (mails_of ts) s1.links s2.links → WroteAt e held held2 (bytes_of (flushed [] ds) ++ bytes_of ts) → s2.stop ≡ s1.stop
+        ends_round : GoesNow → Tells told1 told2 (piece_at p ∷ []) → (e : ConnEnd) (ts : List (Thought (Letter M))) (es : List (Did M)) → IsTurn (round_plan conn p) es → Whole may (view s1.turn) (view s2.turn) ts es
+            → Posts (mails_of ts) s1.links s2.links → WroteAt e held held2 (bytes_of (flushed [] ds) ++ bytes_of ts) → s2.stop ≡ s1.stop
             → EndsWhole e [] (flushed [] ds ++ ts) ended2 reads reads2 writes writes2 (stop_view s.stop).reads (stop_view s2.stop).reads
-            → ServedSo may conn told told2 ended ended2 reads reads2 held held2 writes writes2 receiver s s2 e
+            → ServedSo may conn told told2 ended ended2 reads reads2 held held2 writes writes2 s s2 e
         ends_round h tells e ts es turn w posts wrote stop why =
             let out = leaves_both (view s.turn) (view s1.turn) (view s2.turn) (flushed [] ds) ts ds es h.did w in
             let whole = whole_both (view s.turn) (view s1.turn) (view s2.turn) (flushed [] ds) ts ds es h.did w in
@@ -232,17 +232,17 @@ module _ {S M : Type 0} (may : ℕ → Type 0) where
                 does = subst (λ (l : List (Did M)). Does (view s.turn) (view s2.turn) l) (sym (append_nil (ds ++ es))) whole.does;
                 times = subst (λ (l : List (Did M)). Each (InTime may) l) (sym (append_nil (ds ++ es))) whole.times;
                 went = whole.went;
-                posts = subst (λ (l : List M). Posts receiver l s.links s2.links) (sym (ap mails_of out ∙ mails_both (flushed [] ds) ts)) (posts_more receiver (mails_of (flushed [] ds)) (mails_of ts) s.links s1.links s2.links h.posts posts);
+                posts = subst (λ (l : List (Letter M)). Posts l s.links s2.links) (sym (ap mails_of out ∙ mails_both (flushed [] ds) ts)) (posts_more (mails_of (flushed [] ds)) (mails_of ts) s.links s1.links s2.links h.posts posts);
                 wrote = subst (λ (l : List ℕ). WroteAt e held held2 l) (sym (ap bytes_of out ∙ bytes_both (flushed [] ds) ts)) wrote;
                 stop = (ap (λ (v : StopView). v.sets) (ap stop_view stop ∙ h.stop), ap (λ (v : StopView). v.splits) (ap stop_view stop ∙ h.stop));
-                ends = inl (refl, subst (λ (l : List (Thought M)). EndsWhole e [] l ended2 reads reads2 writes writes2 (stop_view s.stop).reads (stop_view s2.stop).reads) (sym out) why);
+                ends = inl (refl, subst (λ (l : List (Thought (Letter M))). EndsWhole e [] l ended2 reads reads2 writes writes2 (stop_view s.stop).reads (stop_view s2.stop).reads) (sym out) why);
               },
             )
 
-        done_round : GoesNow → Tells told1 told2 (piece_at p ∷ []) → (e : ConnEnd) → RoundDone may conn held1 held2 writes1 writes2 receiver s1 s2 p (Err e)
-            → ServedSo may conn told told2 ended ended2 reads reads2 held held2 writes writes2 receiver s s2 e
+        done_round : GoesNow → Tells told1 told2 (piece_at p ∷ []) → (e : ConnEnd) → RoundDone may conn held1 held2 writes1 writes2 s1 s2 p (Err e)
+            → ServedSo may conn told told2 ended ended2 reads reads2 held held2 writes writes2 s s2 e
         done_round h tells end.Ended d = ends_round h tells end.Ended d.0 d.1 d.2.0 d.2.1 d.3 (wrote_both held held1 held2 (bytes_of (flushed [] ds)) (bytes_of d.0) h.wrote d.4.0) d.5
-            (each_both (λ (t : Thought M). bad_of t.said ≡ None) (flushed [] ds) d.0 h.none_bad d.4.2, inr (refl, over_behind (flushed [] ds) d.0 d.4.3))
+            (each_both (λ (t : Thought (Letter M)). bad_of t.said ≡ None) (flushed [] ds) d.0 h.none_bad d.4.2, inr (refl, over_behind (flushed [] ds) d.0 d.4.3))
         done_round h tells (end.BadFrame at) d = ends_round h tells (end.BadFrame at) d.0 d.1 d.2.0 d.2.1 d.3 (wrote_both held held1 held2 (bytes_of (flushed [] ds)) (bytes_of d.0) h.wrote d.4.0) d.5
             (refl, bad_behind at (flushed [] ds) d.0 d.4.2)
         done_round h tells end.NoMemory d = ends_round h tells end.NoMemory d.0 d.1 d.2.0 d.2.1 d.3 (wrote_both held held1 held2 (bytes_of (flushed [] ds)) (bytes_of d.0) h.wrote d.4.0) d.5 (inl refl)
@@ -254,8 +254,8 @@ module _ {S M : Type 0} (may : ℕ → Type 0) where
         done_round h tells (end.Full k n) d = absurd d.4
         done_round h tells end.Worn d = absurd d.4
 
-        cut_round : GoesNow → Tells told1 told2 (piece_at p ∷ []) → (e : ConnEnd) → RoundCut may conn held1 held2 writes1 writes2 receiver s1 s2 p e
-            → ServedSo may conn told told2 ended ended2 reads reads2 held held2 writes writes2 receiver s s2 e
+        cut_round : GoesNow → Tells told1 told2 (piece_at p ∷ []) → (e : ConnEnd) → RoundCut may conn held1 held2 writes1 writes2 s1 s2 p e
+            → ServedSo may conn told told2 ended ended2 reads reads2 held held2 writes writes2 s s2 e
         cut_round h tells e d = let es = d.2.0 in let b = d.2.1.1 in (
           taken,
           piece_at p ∷ [],
@@ -267,15 +267,15 @@ module _ {S M : Type 0} (may : ℕ → Type 0) where
             does = does_both (view s.turn) (view s1.turn) (view s2.turn) ds es h.did.does b.does;
             times = each_both (InTime may) ds es h.did.times b.times;
             went = h.did.went;
-            posts = subst (λ l. Posts receiver (mails_of (flushed [] ds)) s.links l) (sym d.3) h.posts;
+            posts = subst (λ l. Posts (mails_of (flushed [] ds)) s.links l) (sym d.3) h.posts;
             wrote = wrote_at e held held2 (bytes_of (flushed [] ds)) (subst (λ (o : Option (List ℕ)). WroteAll held o (bytes_of (flushed [] ds))) (sym d.4) h.wrote);
             stop = (ap (λ (v : StopView). v.sets) (ap stop_view d.6 ∙ h.stop), ap (λ (v : StopView). v.splits) (ap stop_view d.6 ∙ h.stop));
             ends = inr (piece_at p, refl, subst (λ (l : List (Step M)). IsCut l es) (plan_at conn p) d.2.1.0, ends_cut d.0 e (view s2.turn) es d.1 b.cause);
           },
         )
 
-        pub serves_round : GoesNow → Tells told1 told2 (piece_at p ∷ []) → (e : ConnEnd) → TurnTells may conn held1 held2 writes1 writes2 receiver s1 s2 p (Err e)
-            → ServedSo may conn told told2 ended ended2 reads reads2 held held2 writes writes2 receiver s s2 e
+        pub serves_round : GoesNow → Tells told1 told2 (piece_at p ∷ []) → (e : ConnEnd) → TurnTells may conn held1 held2 writes1 writes2 s1 s2 p (Err e)
+            → ServedSo may conn told told2 ended ended2 reads reads2 held held2 writes writes2 s s2 e
         serves_round h tells e t = ⊎_elim (λ d. done_round h tells e d) (λ d. cut_round h tells e d) t
 
     -- the end was fixed, and then the connection was hung up
@@ -283,8 +283,8 @@ module _ {S M : Type 0} (may : ℕ → Type 0) where
       abbrev hung_up : NodeSeatIn S M
       hung_up = record { turn = t; stop = s1.stop; links = s1.links; told = s1.told }
 
-      pub served_whole : (e : ConnEnd) (r : Result (Thought M) Refusal) → ServedSo may conn told told1 ended ended1 reads reads1 held held1 writes writes1 receiver s s1 e → ThinkAsks may (kind.Hangup conn) r s1.turn t
-          → ServedWhole may conn told told1 ended ended1 reads reads1 held held1 writes writes1 receiver s hung_up e
+      pub served_whole : (e : ConnEnd) (r : Result (Thought (Letter M)) Refusal) → ServedSo may conn told told1 ended ended1 reads reads1 held held1 writes writes1 s s1 e → ThinkAsks may (kind.Hangup conn) r s1.turn t
+          → ServedWhole may conn told told1 ended ended1 reads reads1 held held1 writes writes1 s hung_up e
       served_whole e (Ok u) h k = let x = h.4 in record {
         taken = h.0;
         last = h.1;

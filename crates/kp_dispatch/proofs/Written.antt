@@ -1,5 +1,5 @@
 -- Writing in pieces.
-use Rattle.std.proofs.Common.{◌≡◌, ◌-◌, ◌+◌, ℕ, List, [], ◌++◌, ap, sym, ◌∙◌, append_assoc, length, take, drop, arith, drop-drop}
+use Rattle.std.proofs.Common.{◌≡◌, ◌-◌, ◌+◌, ℕ, List, ◌++◌, ap, sym, ◌∙◌, append_assoc, length, take, drop, arith, drop-drop}
 use Rattle.std.proofs.lemmas.List.{take-append-drop}
 use Rattle.std.proofs.lemmas.Grind.{common_steps}
 use Rattle.std.specs.Prelude.{Option, Some, None}

@@ -1,11 +1,12 @@
 -- What serving one connection does (this project's own).
-use Rattle.std.specs.Prelude.{◌≡◌, ◌⊎◌, ◌+◌, ℕ, Bool, List, [], ◌∷◌, ◌++◌, Option, Some, None, Result, Ok, Err, ⊤, true}
+use Rattle.std.specs.Prelude.{◌≡◌, ◌⊎◌, ◌+◌, ℕ, Bool, List, [], ◌∷◌, ◌++◌, Option, Some, None, Result, Ok, Err, true}
 use Rattle.kp_turn.specs.TurnSeats.{view}
 use Rattle.kp_turn.specs.TurnView.{IsFull}
 use Rattle.kp_turn.specs.StopSeats.{stop_view}
 use Rattle.kp_event.specs.declared.event.NodeEventKind.TheVariants as kind
 use Rattle.kp_event.specs.declared.fail.KeptFail.{KeptFail}
 use Rattle.kp_event.specs.declared.thought.Thought.{Thought}
+use Rattle.kp_shared.specs.Letters.{Letter}
 use Rattle.kp_io.specs.Faults.{one_more}
 use Rattle.kp_io.specs.Streams.{Piece, Tells}
 use Rattle.kp_io.specs.Streams as piece
@@ -67,7 +68,7 @@ WroteAt end.NoMemory held held' all = WroteAll held held' all
 
 -- why a connection ends so whose turns are all whole: what its stream answered last, where that has no turn, what its thoughts
 -- said, and how the faults of its input and output and its reads of the stop word rose
-abbrev pub EndsWhole : {M : Type 0} → ConnEnd → List Piece → List (Thought M) → Bool → ℕ → ℕ → ℕ → ℕ → ℕ → ℕ → Type 0
+abbrev pub EndsWhole : {M : Type 0} → ConnEnd → List Piece → List (Thought (Letter M)) → Bool → ℕ → ℕ → ℕ → ℕ → ℕ → ℕ → Type 0
 EndsWhole end.Ended last ts ended i i' o o' r r' = SaysNoneBad ts × (((last ≡ piece.End ∷ []) × (ended ≡ true)) ⊎ ((last ≡ []) × SaysOver ts))
 EndsWhole (end.BadFrame at) last ts ended i i' o o' r r' = (last ≡ []) × SaysBad at ts
 EndsWhole end.ReadFault last ts ended i i' o o' r r' = (last ≡ []) × (i' ≡ one_more i)
@@ -85,13 +86,13 @@ module _ {S M : Type 0} where
 
   -- what the outside told before and after, and the seat before and after
   module _ (may : ℕ → Type 0) (conn : ℕ) (told told' : Option (List Piece)) (ended ended' : Bool) (in_faults in_faults' : ℕ) (held held' : Option (List ℕ)) (out_faults out_faults' : ℕ)
-      (receiver : M → ℕ) (s s' : NodeSeatIn S M) where
+      (s s' : NodeSeatIn S M) where
     -- whole turns for these answers of the stream, and no end yet
     pub record Goes (taken : List Piece) (ds : List (Did M)) : Type 0 where
       pub tells : Tells told told' taken
       pub turns : Turns conn taken ds
       pub did : Whole may (view s.turn) (view s'.turn) (flushed [] ds) ds
-      pub posts : Posts receiver (mails_of (flushed [] ds)) s.links s'.links
+      pub posts : Posts (mails_of (flushed [] ds)) s.links s'.links
       pub wrote : WroteAll held held' (bytes_of (flushed [] ds))
       pub none_bad : SaysNoneBad (flushed [] ds)
       pub stop : stop_view s'.stop ≡ stop_view s.stop
@@ -112,7 +113,7 @@ module _ {S M : Type 0} where
       pub times : Each (InTime may) (done ++ cut)
       pub went : Each Went done
       -- what leaves is of the whole turns alone
-      pub posts : Posts receiver (mails_of (flushed [] done)) s.links s'.links
+      pub posts : Posts (mails_of (flushed [] done)) s.links s'.links
       pub wrote : WroteAt e held held' (bytes_of (flushed [] done))
       pub stop : ((stop_view s'.stop).sets ≡ (stop_view s.stop).sets) × ((stop_view s'.stop).splits ≡ (stop_view s.stop).splits)
       pub ends : EndsSo e last done cut w

@@ -5,9 +5,9 @@ use Rattle.kp_turn.specs.TurnSeats.{view}
 use Rattle.kp_links.specs.declared.view.LinkView.{LinkView}
 use Rattle.kp_links.specs.LinkView.{Allowing, Takes}
 use Rattle.kp_event.specs.declared.event.NodeEventKind.TheVariants as kind
-use Rattle.kp_event.specs.declared.fail.KeptFail.TheVariants as fail
 use Rattle.kp_event.specs.declared.said.Said.TheVariants as said
 use Rattle.kp_event.specs.declared.thought.Thought.{Thought}
+use Rattle.kp_shared.specs.Letters.{Letter}
 use Rattle.kp_shared.specs.declared.plan.Step.{Step}
 use Rattle.kp_shared.specs.declared.plan.Step.TheVariants as step
 use Rattle.kp_shared.specs.declared.refusal.Refusal.{Refusal}
@@ -22,10 +22,10 @@ use Rattle.kp_dispatch.specs.declared.ends.Turned.TheVariants as turned
 use Rattle.kp_dispatch.specs.Ends.{turned_for}
 use Rattle.kp_dispatch.specs.Plans.{carry_plan, tick_plan}
 
-module _ {S M : Type 0} (may : ℕ → Type 0) (receiver : M → ℕ) (s s' : NodeSeatIn S M) where
+module _ {S M : Type 0} (may : ℕ → Type 0) (s s' : NodeSeatIn S M) where
   -- a whole turn of these steps was made, and its mail sent
   abbrev pub Works : List (Step M) → Type 0
-  Works plan = (ts : List (Thought M)) × (ds : List (Did M)) × TurnWhole may (view s.turn) (view s'.turn) plan ts ds × Posts receiver (mails_of ts) s.links s'.links × (s'.stop ≡ s.stop)
+  Works plan = (ts : List (Thought (Letter M))) × (ds : List (Did M)) × TurnWhole may (view s.turn) (view s'.turn) plan ts ds × Posts (mails_of ts) s.links s'.links × (s'.stop ≡ s.stop)
 
   -- a turn of these steps was cut so, and nothing of it left
   abbrev pub Halts : List (Step M) → Refusal → Type 0
@@ -51,5 +51,5 @@ module _ {S M : Type 0} (may : ℕ → Type 0) (receiver : M → ℕ) (s s' : No
 module _ {S M : Type 0} (may : ℕ → Type 0) (s s' : NodeSeatIn S M) where
   -- a connection was accepted and has this number, which its Accept was answered; or that turn was cut
   abbrev pub AcceptTells : List ℕ → Result ℕ Turned → Type 0
-  AcceptTells draw (Ok n) = (t : Thought M) × (ds : List (Did M)) × (t.said ≡ said.Conn n) × TurnWhole may (view s.turn) (view s'.turn) (step.Event (kind.Accept draw) ∷ []) (t ∷ []) ds
+  AcceptTells draw (Ok n) = (t : Thought (Letter M)) × (ds : List (Did M)) × (t.said ≡ said.Conn n) × TurnWhole may (view s.turn) (view s'.turn) (step.Event (kind.Accept draw) ∷ []) (t ∷ []) ds
   AcceptTells draw (Err x) = (r : Refusal) × (x ≡ turned_for r) × TurnBroken may s.turn s'.turn (step.Event (kind.Accept draw) ∷ []) r

@@ -12,7 +12,7 @@ use kp_shared::{Kept, NodeSeat, SharedNode, think_kept};
 use std::sync::Wait;
 
 // What a thought says.
-fn said_of<M>(thought: Thought<M>) -> Said
+fn said_of<M>(thought: Thought<(u8, M)>) -> Said
 where
     M: Drop,
     ensures { result ≡ thought.said }

@@ -15,15 +15,17 @@ use kp_event::{FedWord, KeptFail, NodeEventKind, OutPiece, Said, Thought};
 use kp_io::{Clock, Sink};
 use kp_links::{LinkSeat, Links};
 use kp_model::Bytes;
-use kp_shared::{Carried, Kept, NodeSeat, Peers, Refusal, Served, SharedNode, Told, post_thought, think_kept, think_plan};
+use kp_shared::{
+    Kept, NodeSeat, Peers, Refusal, Served, SharedNode, Told, post_thought, think_kept, think_plan,
+};
 use kp_turn::{Turn, TurnSeat};
 use std::alloc::Global;
 use std::sync::Wait;
 
 /// The thoughts of a turn, which are kept.
 struct Round<M> {
-    front: Vec<Thought<M>>,
-    drained: Thought<M>,
+    front: Vec<Thought<(u8, M)>>,
+    drained: Thought<(u8, M)>,
 }
 
 // Thinks what came, where something came. Nothing of it is kept yet.
@@ -36,7 +38,7 @@ fn think_front<R: Wait, K: Kept, C: Clock>(
     clock: &C,
     told: &mut Told,
     piece: Option<Bytes>,
-) -> Result<Vec<Thought<K::Mail>>, Refusal>
+) -> Result<Vec<Thought<(u8, K::Mail)>>, Refusal>
     requires { IsNodeTurn (λ s. K.life s.kept) turn.now seat.old }
     ensures seat { IsNodeTurn (λ s. K.life s.kept) turn.now seat.new }
     ensures tells { FrontTells (C.may clock.now) conn (λ v. v.items) piece result seat.old seat.new }
@@ -61,7 +63,7 @@ fn think_behind<R: Wait, K: Kept, C: Clock>(
     turn: &Turn<Served<K>>,
     seat: &mut TurnSeat<Served<K>>,
     clock: &C,
-    front: Vec<Thought<K::Mail>>,
+    front: Vec<Thought<(u8, K::Mail)>>,
 ) -> Result<Round<K::Mail>, Refusal>
     requires { IsNodeTurn (λ s. K.life s.kept) turn.now seat.old }
     ensures seat { IsNodeTurn (λ s. K.life s.kept) turn.now seat.new }
@@ -118,15 +120,15 @@ fn first_place(one: Option<u64>, two: Option<u64>) -> Option<u64>
 }
 
 // Sends the mail of what was thought before the drain. The answer is the place of a frame outside the grammar.
-fn post_front<R: Wait, M: Carried>(
+fn post_front<R: Wait, M: Drop>(
     rt: &R,
     links: &Peers<Links<M>>,
     seats: &mut Peers<LinkSeat<M>>,
-    front: Vec<Thought<M>>,
+    front: Vec<Thought<(u8, M)>>,
 ) -> Option<u64>
     requires seats { HasSeats links.now seats.old }
     ensures seats { HasSeats links.now seats.new }
-    ensures posts { Posts M.receiver (mails_of front.items) seats.old seats.new }
+    ensures posts { Posts (mails_of front.items) seats.old seats.new }
     ensures bad { result ≡ first_bad front.items }
 {
     let mut bad = None;
@@ -161,7 +163,7 @@ fn judge(bad: Option<u64>, written: Result<(), ConnEnd>) -> Result<(), ConnEnd>
 }
 
 // Sends the mail of a turn that was kept, and writes what it drained.
-fn leave<R: Wait, W: Sink, M: Carried>(
+fn leave<R: Wait, W: Sink, M: Drop>(
     rt: &R,
     links: &Peers<Links<M>>,
     seats: &mut Peers<LinkSeat<M>>,
@@ -171,7 +173,7 @@ fn leave<R: Wait, W: Sink, M: Carried>(
     requires seats { HasSeats links.now seats.old }
     requires round { IsRound round }
     ensures seats { HasSeats links.now seats.new }
-    ensures posts { Posts M.receiver (mails_of (thoughts_of round)) seats.old seats.new }
+    ensures posts { Posts (mails_of (thoughts_of round)) seats.old seats.new }
     ensures tells { LeaveTells (W.held output.old) (W.held output.new) (W.faults output.old) (W.faults output.new) (thoughts_of round) result }
 {
     let Round { front, drained } = round;
@@ -194,7 +196,7 @@ pub(crate) fn turn_round<R: Wait, K: Kept, W: Sink, C: Clock>(
 ) -> Result<(), ConnEnd>
     requires { IsNodeSeatOf (λ s. K.life s.kept) node.now seat.old }
     ensures seat { IsNodeSeatOf (λ s. K.life s.kept) node.now seat.new }
-    ensures tells { TurnTells (C.may clock.now) conn (W.held output.old) (W.held output.new) (W.faults output.old) (W.faults output.new) K.Mail.receiver seat.old seat.new piece result }
+    ensures tells { TurnTells (C.may clock.now) conn (W.held output.old) (W.held output.new) (W.faults output.old) (W.faults output.new) seat.old seat.new piece result }
 {
     match think_round(
         rt,

@@ -50,7 +50,7 @@ fn serve<R: Wait, S: Stream, W: Sink, G: Gate, C: Clock, K: Kept>(
 ) -> ConnEnd
     requires { IsNodeSeatOf (λ s. K.life s.kept) node.now seat.old }
     ensures seat { IsNodeSeatOf (λ s. K.life s.kept) node.now seat.new }
-    ensures serves { ServedSo (C.may clock.now) conn (S.told input.old) (S.told input.new) (S.ended input.old) (S.ended input.new) (S.faults input.old) (S.faults input.new) (W.held output.old) (W.held output.new) (W.faults output.old) (W.faults output.new) K.Mail.receiver seat.old seat.new result }
+    ensures serves { ServedSo (C.may clock.now) conn (S.told input.old) (S.told input.new) (S.ended input.old) (S.ended input.new) (S.faults input.old) (S.faults input.new) (W.held output.old) (W.held output.new) (W.faults output.old) (W.faults output.new) seat.old seat.new result }
 {
     let mut room = [0u8; PIECE];
     let mut turns = 0u64;
@@ -89,7 +89,7 @@ pub fn serve_connection<R: Wait, S: Stream, W: Sink, G: Gate, C: Clock, K: Kept>
 ) -> ConnEnd
     requires { IsNodeSeatOf (λ s. K.life s.kept) node.now seat.old }
     ensures seat { IsNodeSeatOf (λ s. K.life s.kept) node.now seat.new }
-    ensures serves { ServedWhole (C.may clock.now) conn (S.told input.old) (S.told input.new) (S.ended input.old) (S.ended input.new) (S.faults input.old) (S.faults input.new) (W.held output.old) (W.held output.new) (W.faults output.old) (W.faults output.new) K.Mail.receiver seat.old seat.new result }
+    ensures serves { ServedWhole (C.may clock.now) conn (S.told input.old) (S.told input.new) (S.ended input.old) (S.ended input.new) (S.faults input.old) (S.faults input.new) (W.held output.old) (W.held output.new) (W.faults output.old) (W.faults output.new) seat.old seat.new result }
 {
     let end = serve(rt, alloc, conn, seat, node, input, output, gate, clock);
     let _ = think(

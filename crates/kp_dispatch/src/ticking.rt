@@ -9,7 +9,7 @@ use crate::plans::{plan_carry, plan_tick};
 use kp_event::KeptFail;
 use kp_io::Clock;
 use kp_links::{LinkSeat, Links};
-use kp_shared::{Carried, Kept, NodeSeat, Refusal, SharedNode, Step, make_turn, post_all};
+use kp_shared::{Kept, NodeSeat, Refusal, SharedNode, Step, make_turn, post_all};
 use std::alloc::{AllocError, Global};
 use std::sync::Wait;
 
@@ -24,7 +24,7 @@ fn work<R: Wait, K: Kept, C: Clock>(
 ) -> Result<(), Refusal>
     requires { IsNodeSeatOf (λ s. K.life s.kept) node.now seat.old }
     ensures seat { IsNodeSeatOf (λ s. K.life s.kept) node.now seat.new }
-    ensures tells { WorkTells (C.may clock.now) K.Mail.receiver seat.old seat.new plan.items result }
+    ensures tells { WorkTells (C.may clock.now) seat.old seat.new plan.items result }
 {
     match make_turn(
         rt,
@@ -56,7 +56,7 @@ pub fn tick<R: Wait, K: Kept, C: Clock>(
 ) -> Turned
     requires { IsNodeSeatOf (λ s. K.life s.kept) node.now seat.old }
     ensures seat { IsNodeSeatOf (λ s. K.life s.kept) node.now seat.new }
-    ensures tells { TickTells (C.may clock.now) K.Mail.receiver seat.old seat.new timeout snapshot result }
+    ensures tells { TickTells (C.may clock.now) seat.old seat.new timeout snapshot result }
 {
     let Ok(plan) = plan_tick(alloc, timeout, snapshot) else {
         return Turned::Failed(KeptFail::NoMemory);
@@ -82,12 +82,12 @@ pub fn carry<R: Wait, K: Kept, C: Clock>(
     requires at { IsLinkSeatOf link.now at.old }
     ensures seat { IsNodeSeatOf (λ s. K.life s.kept) node.now seat.new }
     ensures at { IsLinkSeatOf link.now at.new × (refused_of at.new ≡ refused_of at.old) }
-    ensures tells { CarryTells (C.may clock.now) K.Mail.receiver seat.old seat.new K.Mail.feeds (link_view at.old) (link_view at.new) result }
+    ensures tells { CarryTells (C.may clock.now) seat.old seat.new K.feeds (link_view at.old) (link_view at.new) result }
 {
     let Some(mail) = link.take(rt, at) else {
         return Turned::Empty;
     };
-    let feeds = mail.feeds_log();
+    let feeds = K::feeds_log(&mail);
     let Ok(plan) = plan_carry(alloc, mail) else {
         return Turned::Failed(KeptFail::NoMemory);
     };

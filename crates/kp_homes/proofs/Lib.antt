@@ -11,6 +11,8 @@ pub mod Lifting
 pub mod Settling
 pub mod Looking
 pub mod Earlier
+pub mod Sound
+pub mod Holding
 pub mod Beginning
 pub mod Carrying
 pub mod Finding

@@ -1,12 +1,11 @@
 -- The numbers of records are in the ranges of the format.
-use Rattle.std.proofs.Common.{◌≡◌, ℕ, zero, suc, ◌≤◌, ◌^◌, Bool, true, List, [], ◌∷◌, Option, Some, None, refl, sym, subst, arith}
+use Rattle.std.proofs.Common.{◌≡◌, ℕ, zero, suc, ◌≤◌, ◌^◌, true, List, [], ◌∷◌, Option, sym, subst, arith}
 use Rattle.std.specs.Prelude.{IfSome, slice_get}
 use Rattle.std.proofs.lemmas.Bool.Decides.{nat_tests}
-use Rattle.std.proofs.lemmas.Option.{none-some, same_Some}
+use Rattle.std.proofs.lemmas.Option.{same_Some}
 use Rattle.kp_jute.specs.Form.{tagged}
 use Rattle.kp_model.specs.Grammar.{is_number}
 use Rattle.kp_entry.specs.declared.kinds.RecordKind.{RecordKind}
-use Rattle.kp_entry.specs.declared.kinds.RecordKind.TheVariants as record_kind
 use Rattle.kp_entry.specs.declared.record.Record.{Record}
 use Rattle.kp_entry.specs.declared.record.Record.TheVariants as record_
 use Rattle.kp_entry.specs.Fields.{kinds}

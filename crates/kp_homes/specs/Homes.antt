@@ -8,7 +8,7 @@ use Rattle.kp_homes.specs.declared.fail.HomeFail.TheVariants as home_fail
 use Rattle.kp_homes.specs.declared.kept.Kept0.{Kept0}
 use Rattle.kp_homes.specs.declared.home.Home.{Home}
 use Rattle.kp_homes.specs.Stands.{Bytes4, Stand, Stands, HomeLeft, slot_number}
-use Rattle.kp_homes.specs.Opening.{Found, found, found_in, booted}
+use Rattle.kp_homes.specs.Opening.{Found, Holds, AreTold, LeftNow, found, found_in, booted}
 
 -- a server starts with what was found
 pub record IsKept (k : Kept0) (f : Found) : Type 0 where
@@ -36,6 +36,11 @@ FindsEither node past m home f g = (n : ℕ) (c : Bytes4) → m < n → HomeLeft
 -- after each crash since the count was m opening finds this
 abbrev pub FindsOnly : {H : Type 0} → ℕ → (H → Option Past) → ℕ → Four H → Found → Type 0
 FindsOnly node past m home f = (n : ℕ) (c : Bytes4) → m < n → HomeLeft past home n c → found node c ≡ Ok f
+
+-- without a crash: what the disks hold now they tell, it is something that a crash now may leave, and opening finds the one
+-- or the other on it
+abbrev pub HoldsEither : {H : Type 0} → ℕ → (H → Option (List ℕ)) → (H → Option Past) → Four H → Found → Found → Type 0
+HoldsEither node held past home f g = (c : Bytes4) → Holds held home c → AreTold held past home c × LeftNow past home c × ((found node c ≡ Ok f) ⊎ (found node c ≡ Ok g))
 
 -- the refusal of what was found is this one, where it is a damage
 abbrev pub IsRefused : HomeFail → Result Found HomeFail → Type 0

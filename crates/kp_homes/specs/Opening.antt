@@ -1,6 +1,6 @@
 -- What opening a home finds, and what a server starts with (this project's own).
 use Rattle.std.specs.Prelude.{◌≡◌, ℕ, ◌+◌, ◌^◌, ◌≤◌, ◌-◌, min, nat_lt, Bool, true, false, cond, ◌&&◌, List, [], ◌∷◌, length, take, drop, get_or, Option, Some, None, Result, Ok, Err}
-use Rattle.kp_io.specs.Crash.{Past, MayLeave, AreUpTo}
+use Rattle.kp_io.specs.Crash.{Past, MayLeave, AreUpTo, IsLeft}
 use Rattle.kp_io.specs.declared.home.Four.{Four}
 use Rattle.kp_model.specs.LogEntry.{LogEntry}
 use Rattle.kp_jute.specs.declared.fault.JuteFail.{JuteFail}
@@ -231,6 +231,20 @@ pub record LeftNow {H : Type 0} (past : H → Option Past) (home : Four H) (c : 
   pub on_j1 : LeftNowIf (past home.j1) c.j1
   pub on_i0 : LeftNowIf (past home.i0) c.i0
   pub on_i1 : LeftNowIf (past home.i1) c.i1
+
+-- a disk tells its calls, which are numbered up to m, and what it holds, where it tells that, is something that a crash now may leave
+pub record IsSound (m : ℕ) (held : Option (List ℕ)) (past : Option Past) : Type 0 where
+  pub told : Past
+  pub tells : past ≡ Some told
+  pub up_to : AreUpTo m told.notes
+  pub left : IsLeft past held
+
+-- the same of all four disks of a home
+pub record AreSound {H : Type 0} (held : H → Option (List ℕ)) (past : H → Option Past) (home : Four H) : Type 0 where
+  pub on_j0 : IsSound home.moments (held home.j0) (past home.j0)
+  pub on_j1 : IsSound home.moments (held home.j1) (past home.j1)
+  pub on_i0 : IsSound home.moments (held home.i0) (past home.i0)
+  pub on_i1 : IsSound home.moments (held home.i1) (past home.i1)
 
 -- what a crash up to the count of the first home leaves of the second one it leaves of the first
 abbrev pub IsEarlier : {H : Type 0} → (H → Option Past) → Four H → Four H → Type 0

@@ -9,7 +9,7 @@ ghost use Rattle.kp_entry.specs.Records.{spelled, has_base};
 ghost use Rattle.kp_journal.specs.Heads.{IsHead};
 ghost use Rattle.kp_journal.specs.Journals.{unread};
 ghost use Rattle.kp_homes.specs.Stands.{Bytes4, HomeLeft, IsAtRest, IsReady, Stands, stands, choice, made};
-ghost use Rattle.kp_homes.specs.Opening.{IsEarlier, first_head, first_records};
+ghost use Rattle.kp_homes.specs.Opening.{AreSound, IsEarlier, first_head, first_records};
 
 use crate::slot::new_slot;
 use kp_entry::{Record, Records};
@@ -78,6 +78,7 @@ pub(crate) fn write_first<H: Disk>(
     ensures crash { (b : Bytes4) → IsAtRest H.held H.past disks.old b → choice b.j0 b.j1 ≡ None → HasRoom disks.new.moments
         → (n : ℕ) (c : Bytes4) → disks.old.moments < n → HomeLeft H.past disks.new n c → (stands head.node c ≡ None) ⊎ (stands head.node c ≡ Some (Ok (made head [] records.now))) }
     ensures earlier { (b : Bytes4) → IsAtRest H.held H.past disks.old b → choice b.j0 b.j1 ≡ None → HasRoom disks.new.moments → IsEarlier H.past disks.old disks.new }
+    ensures sound { (b : Bytes4) → IsAtRest H.held H.past disks.old b → choice b.j0 b.j1 ≡ None → HasRoom disks.new.moments → AreSound H.held H.past disks.new }
     ensures rest { (b : Bytes4) → IsAtRest H.held H.past disks.old b → choice b.j0 b.j1 ≡ None → HasRoom disks.new.moments
         → OnOk result ((c : Bytes4) × Stands H.held H.past disks.new false (unread head (27 + length (spelled records.now))) c (made head [] records.now)) }
     ensures ready { OnOk result (IsReady false (H.held disks.new.j0) (H.held disks.new.j1) (unread head (27 + length (spelled records.now)))) }

@@ -8,8 +8,8 @@ ghost use Rattle.kp_journal.specs.Heads.{IsHead};
 ghost use Rattle.kp_journal.specs.Journals.{unread};
 ghost use Rattle.kp_journal.specs.declared.fail.JournalFail.TheVariants as journal_fail;
 ghost use Rattle.kp_homes.specs.declared.fail.HomeFail.TheVariants as home_fail;
-ghost use Rattle.kp_homes.specs.Opening.{Found, IsEarlier, are_fit, blank_start, with_records};
-ghost use Rattle.kp_homes.specs.Homes.{Keeps, FindsEither, FindsOnly};
+ghost use Rattle.kp_homes.specs.Opening.{AreSound, Found, IsEarlier, are_fit, blank_start, with_records};
+ghost use Rattle.kp_homes.specs.Homes.{HoldsEither, Keeps, FindsEither, FindsOnly};
 ghost use Rattle.kp_homes.specs.Replays.{image_bytes, made_found};
 ghost use Rattle.kp_homes.specs.Stands.{Bytes4, Stand, Stands, IsAtRest, IsReady, StandsForEither, StandsForOnly, stands, choice, with_more, made, next_head, slot_number, IsOfWriting};
 
@@ -73,6 +73,7 @@ impl<H: Disk> Home<H> {
         ensures crash { (b : Bytes4) (v : Stand) → Stands H.held H.past self.old.disks self.old.second self.old.journal b v → HasRoom self.new.disks.moments
             → StandsForEither self.old.journal.head.node H.past self.old.disks.moments self.new.disks v (with_more records.now v) }
         ensures earlier { (b : Bytes4) (v : Stand) → Stands H.held H.past self.old.disks self.old.second self.old.journal b v → HasRoom self.new.disks.moments → IsEarlier H.past self.old.disks self.new.disks }
+        ensures sound { (b : Bytes4) (v : Stand) → Stands H.held H.past self.old.disks self.old.second self.old.journal b v → HasRoom self.new.disks.moments → AreSound H.held H.past self.new.disks }
         ensures rest { (b : Bytes4) (v : Stand) → Stands H.held H.past self.old.disks self.old.second self.old.journal b v → HasRoom self.new.disks.moments
             → OnOk result ((c : Bytes4) × Stands H.held H.past self.new.disks self.new.second self.new.journal c (with_more records.now v)) }
         ensures head { OnOk result (self.new.journal.head ≡ self.old.journal.head) }
@@ -100,6 +101,7 @@ impl<H: Disk> Home<H> {
         ensures crash { (b : Bytes4) (v : Stand) → Stands H.held H.past self.old.disks self.old.second self.old.journal b v → HasRoom self.new.disks.moments
             → StandsForEither self.old.journal.head.node H.past self.old.disks.moments self.new.disks v (with_more records.now v) }
         ensures earlier { (b : Bytes4) (v : Stand) → Stands H.held H.past self.old.disks self.old.second self.old.journal b v → HasRoom self.new.disks.moments → IsEarlier H.past self.old.disks self.new.disks }
+        ensures sound { (b : Bytes4) (v : Stand) → Stands H.held H.past self.old.disks self.old.second self.old.journal b v → HasRoom self.new.disks.moments → AreSound H.held H.past self.new.disks }
         ensures rest { (b : Bytes4) (v : Stand) → Stands H.held H.past self.old.disks self.old.second self.old.journal b v → HasRoom self.new.disks.moments
             → OnOk result ((c : Bytes4) × Stands H.held H.past self.new.disks self.new.second self.new.journal c (with_more records.now v)) }
         ensures kept { (b : Bytes4) (v : Stand) → Stands H.held H.past self.old.disks self.old.second self.old.journal b v → HasRoom self.new.disks.moments
@@ -129,6 +131,7 @@ impl<H: Disk> Home<H> {
         ensures crash { (b : Bytes4) (v : Stand) → Stands H.held H.past self.old.disks self.old.second self.old.journal b v → HasRoom self.new.disks.moments → self.old.journal.head.generation < 2 ^ 62
             → StandsForEither self.old.journal.head.node H.past self.old.disks.moments self.new.disks v (made head image.now records.now) }
         ensures earlier { (b : Bytes4) (v : Stand) → Stands H.held H.past self.old.disks self.old.second self.old.journal b v → HasRoom self.new.disks.moments → IsEarlier H.past self.old.disks self.new.disks }
+        ensures sound { (b : Bytes4) (v : Stand) → Stands H.held H.past self.old.disks self.old.second self.old.journal b v → HasRoom self.new.disks.moments → AreSound H.held H.past self.new.disks }
         ensures rest { (b : Bytes4) (v : Stand) → Stands H.held H.past self.old.disks self.old.second self.old.journal b v → HasRoom self.new.disks.moments → self.old.journal.head.generation < 2 ^ 62
             → OnOk result ((c : Bytes4) × IsAtRest H.held H.past self.new.disks c × (choice c.j0 c.j1 ≡ Some (not self.old.second)) × (stands self.old.journal.head.node c ≡ Some (Ok (made head image.now records.now)))) }
         ensures second { self.new.second ≡ self.old.second }
@@ -166,6 +169,7 @@ impl<H: Disk> Home<H> {
         ensures crash { (b : Bytes4) (v : Stand) → Stands H.held H.past self.old.disks self.old.second self.old.journal b v → HasRoom self.new.disks.moments → self.old.journal.head.generation < 2 ^ 62
             → StandsForEither self.old.journal.head.node H.past self.old.disks.moments self.new.disks v (made (next_head self.old.journal.head (length image.now)) image.now rest.now) }
         ensures earlier { (b : Bytes4) (v : Stand) → Stands H.held H.past self.old.disks self.old.second self.old.journal b v → HasRoom self.new.disks.moments → IsEarlier H.past self.old.disks self.new.disks }
+        ensures sound { (b : Bytes4) (v : Stand) → Stands H.held H.past self.old.disks self.old.second self.old.journal b v → HasRoom self.new.disks.moments → AreSound H.held H.past self.new.disks }
         ensures rest { (b : Bytes4) (v : Stand) → Stands H.held H.past self.old.disks self.old.second self.old.journal b v → HasRoom self.new.disks.moments → self.old.journal.head.generation < 2 ^ 62
             → OnOk result ((c : Bytes4) × Stands H.held H.past self.new.disks self.new.second self.new.journal c (made (next_head self.old.journal.head (length image.now)) image.now rest.now)) }
         ensures kept { (b : Bytes4) (v : Stand) → Stands H.held H.past self.old.disks self.old.second self.old.journal b v → HasRoom self.new.disks.moments → self.old.journal.head.generation < 2 ^ 62
@@ -207,6 +211,8 @@ impl<H: Disk> Home<H> {
         requires no_base { has_base records.now ≡ false }
         ensures crash { (f : Found) → Keeps H.held H.past self.old.disks self.old.second self.old.journal f → HasRoom self.new.disks.moments → are_fit f.start.held records.now ≡ true
             → FindsEither self.old.journal.head.node H.past self.old.disks.moments self.new.disks f (with_records records.now f) }
+        ensures left { (f : Found) → Keeps H.held H.past self.old.disks self.old.second self.old.journal f → HasRoom self.new.disks.moments → are_fit f.start.held records.now ≡ true
+            → HoldsEither self.old.journal.head.node H.held H.past self.new.disks f (with_records records.now f) }
         ensures kept { (f : Found) → Keeps H.held H.past self.old.disks self.old.second self.old.journal f → HasRoom self.new.disks.moments → are_fit f.start.held records.now ≡ true
             → OnOk result (FindsOnly self.new.journal.head.node H.past self.new.disks.moments self.new.disks (with_records records.now f)) }
         ensures keeps { (f : Found) → Keeps H.held H.past self.old.disks self.old.second self.old.journal f → HasRoom self.new.disks.moments → are_fit f.start.held records.now ≡ true
@@ -236,6 +242,8 @@ impl<H: Disk> Home<H> {
         requires { has_base whole.now.rest ≡ false }
         ensures crash { (f : Found) → Keeps H.held H.past self.old.disks self.old.second self.old.journal f → HasRoom self.new.disks.moments → self.old.journal.head.generation < 2 ^ 62 → are_fit (blank_start whole.now.image).held whole.now.rest ≡ true
             → FindsEither self.old.journal.head.node H.past self.old.disks.moments self.new.disks f (made_found whole.now.image whole.now.rest) }
+        ensures left { (f : Found) → Keeps H.held H.past self.old.disks self.old.second self.old.journal f → HasRoom self.new.disks.moments → self.old.journal.head.generation < 2 ^ 62 → are_fit (blank_start whole.now.image).held whole.now.rest ≡ true
+            → HoldsEither self.old.journal.head.node H.held H.past self.new.disks f (made_found whole.now.image whole.now.rest) }
         ensures kept { (f : Found) → Keeps H.held H.past self.old.disks self.old.second self.old.journal f → HasRoom self.new.disks.moments → self.old.journal.head.generation < 2 ^ 62 → are_fit (blank_start whole.now.image).held whole.now.rest ≡ true
             → OnOk result (FindsOnly self.new.journal.head.node H.past self.new.disks.moments self.new.disks (made_found whole.now.image whole.now.rest)) }
         ensures keeps { (f : Found) → Keeps H.held H.past self.old.disks self.old.second self.old.journal f → HasRoom self.new.disks.moments → self.old.journal.head.generation < 2 ^ 62 → are_fit (blank_start whole.now.image).held whole.now.rest ≡ true

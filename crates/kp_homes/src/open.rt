@@ -9,7 +9,7 @@ ghost use Rattle.kp_entry.specs.Records.{has_base};
 ghost use Rattle.kp_journal.specs.Heads.{IsHead};
 ghost use Rattle.kp_homes.specs.declared.fail.HomeFail.TheVariants as home_fail;
 ghost use Rattle.kp_homes.specs.Stands.{Bytes4, Stand, HomeLeft, IsAtRest, IsReady, Stands, StandsForEither, stands, choice, with_more, made};
-ghost use Rattle.kp_homes.specs.Opening.{AreTold, Finds, Found, Holds, IsEarlier, LeftNow, found, blank_found, booted, IsWithin, next_boot, first_head, first_records};
+ghost use Rattle.kp_homes.specs.Opening.{AreTold, AreSound, Finds, Found, Holds, IsEarlier, LeftNow, found, blank_found, booted, IsWithin, next_boot, first_head, first_records};
 ghost use Rattle.kp_homes.specs.Reading.{seen, found_of, IsLive};
 ghost use Rattle.kp_homes.specs.Homes.{IsKept, IsInRange, IsOfStart, IsOfFirst, Keeps, Opens, IsBootedOrNot, disks_of, fail_of};
 
@@ -38,6 +38,7 @@ fn begin<H: Disk>(alloc: Global, disks: &mut Four<H>, node: u8) -> Result<Option
     ensures read { (b : Bytes4) → Holds H.held disks.old b → Finds seen result (found node b) }
     ensures live { (b : Bytes4) → Holds H.held disks.old b → IfOk result (λ l. IsLive node b l) }
     ensures left { (b : Bytes4) → AreTold H.held H.past disks.old b → HasRoom disks.new.moments → (n : ℕ) (c : Bytes4) → disks.old.moments < n → HomeLeft H.past disks.new n c → LeftNow H.past disks.old c }
+    ensures sound { (b : Bytes4) → AreTold H.held H.past disks.old b → LeftNow H.past disks.old b → AreSound H.held H.past disks.new }
     ensures rest { (b : Bytes4) → AreTold H.held H.past disks.old b → HasRoom disks.new.moments → IfOk result (λ _. IsAtRest H.held H.past disks.new b) }
     ensures ready { IfOk result (λ l. IfSome l (λ v. IsReady v.second (H.held disks.new.j0) (H.held disks.new.j1) v.journal)) }
     ensures node { IfOk result (λ l. IfSome l (λ v. v.journal.head.node ≡ node)) }
@@ -61,6 +62,7 @@ fn start_live<H: Disk>(
     ensures crash { (b : Bytes4) (v : Stand) → Stands H.held H.past disks live.second live.journal b v → HasRoom (disks_of result).moments
         → StandsForEither live.journal.head.node H.past disks.moments (disks_of result) v (with_more (record_.Boot (next_boot live.replay.boot) ∷ []) v) }
     ensures earlier { (b : Bytes4) (v : Stand) → Stands H.held H.past disks live.second live.journal b v → HasRoom (disks_of result).moments → IsEarlier H.past disks (disks_of result) }
+    ensures sound { (b : Bytes4) (v : Stand) → Stands H.held H.past disks live.second live.journal b v → HasRoom (disks_of result).moments → AreSound H.held H.past (disks_of result) }
     ensures rest { (b : Bytes4) (v : Stand) → Stands H.held H.past disks live.second live.journal b v → HasRoom (disks_of result).moments
         → IfOk result (λ x. (c : Bytes4) × Stands H.held H.past x.0.disks x.0.second x.0.journal c (with_more (record_.Boot (next_boot live.replay.boot) ∷ []) v)) }
     ensures kept { IfOk result (λ x. IsKept x.1 (booted (found_of live))) }
@@ -101,6 +103,7 @@ fn start_with<H: Disk>(
     ensures crash { (b : Bytes4) (v : Stand) → Stands H.held H.past disks live.second live.journal b v → HasRoom (disks_of result).moments
         → StandsForEither live.journal.head.node H.past disks.moments (disks_of result) v (with_more records.now v) }
     ensures earlier { (b : Bytes4) (v : Stand) → Stands H.held H.past disks live.second live.journal b v → HasRoom (disks_of result).moments → IsEarlier H.past disks (disks_of result) }
+    ensures sound { (b : Bytes4) (v : Stand) → Stands H.held H.past disks live.second live.journal b v → HasRoom (disks_of result).moments → AreSound H.held H.past (disks_of result) }
     ensures rest { (b : Bytes4) (v : Stand) → Stands H.held H.past disks live.second live.journal b v → HasRoom (disks_of result).moments
         → IfOk result (λ x. (c : Bytes4) × Stands H.held H.past x.0.disks x.0.second x.0.journal c (with_more records.now v)) }
     ensures kept { IfOk result (λ x. IsKept x.1 (booted (found_of live))) }
@@ -143,6 +146,7 @@ fn start_blank<H: Disk>(
     ensures crash { (b : Bytes4) → IsAtRest H.held H.past disks b → choice b.j0 b.j1 ≡ None → HasRoom (disks_of result).moments
         → (n : ℕ) (c : Bytes4) → disks.moments < n → HomeLeft H.past (disks_of result) n c → (stands node c ≡ None) ⊎ (stands node c ≡ Some (Ok (made (first_head node) [] first_records))) }
     ensures earlier { (b : Bytes4) → IsAtRest H.held H.past disks b → choice b.j0 b.j1 ≡ None → HasRoom (disks_of result).moments → IsEarlier H.past disks (disks_of result) }
+    ensures sound { (b : Bytes4) → IsAtRest H.held H.past disks b → choice b.j0 b.j1 ≡ None → HasRoom (disks_of result).moments → AreSound H.held H.past (disks_of result) }
     ensures rest { (b : Bytes4) → IsAtRest H.held H.past disks b → choice b.j0 b.j1 ≡ None → HasRoom (disks_of result).moments
         → IfOk result (λ x. (c : Bytes4) × Stands H.held H.past x.0.disks x.0.second x.0.journal c (made (first_head node) [] first_records)) }
     ensures kept { IfOk result (λ x. IsKept x.1 (booted blank_found)) }
@@ -176,6 +180,7 @@ fn start_first<H: Disk>(
     ensures crash { (b : Bytes4) → IsAtRest H.held H.past disks b → choice b.j0 b.j1 ≡ None → HasRoom (disks_of result).moments
         → (n : ℕ) (c : Bytes4) → disks.moments < n → HomeLeft H.past (disks_of result) n c → (stands head.node c ≡ None) ⊎ (stands head.node c ≡ Some (Ok (made head [] records.now))) }
     ensures earlier { (b : Bytes4) → IsAtRest H.held H.past disks b → choice b.j0 b.j1 ≡ None → HasRoom (disks_of result).moments → IsEarlier H.past disks (disks_of result) }
+    ensures sound { (b : Bytes4) → IsAtRest H.held H.past disks b → choice b.j0 b.j1 ≡ None → HasRoom (disks_of result).moments → AreSound H.held H.past (disks_of result) }
     ensures rest { (b : Bytes4) → IsAtRest H.held H.past disks b → choice b.j0 b.j1 ≡ None → HasRoom (disks_of result).moments
         → IfOk result (λ x. (c : Bytes4) × Stands H.held H.past x.0.disks x.0.second x.0.journal c (made head [] records.now)) }
     ensures kept { IfOk result (λ x. IsKept x.1 (booted blank_found)) }
@@ -233,6 +238,8 @@ impl<H: Disk> Home<H> {
         ensures found { (b : Bytes4) → Holds H.held disks b → Opens result (found node b) }
         ensures crash { (b : Bytes4) → AreTold H.held H.past disks b → HasRoom (disks_of result).moments → (n : ℕ) (c : Bytes4) → disks.moments < n → HomeLeft H.past (disks_of result) n c
             → LeftNow H.past disks c ⊎ IsBootedOrNot (found node b) (found node c) }
+        ensures left { (b : Bytes4) → AreTold H.held H.past disks b → LeftNow H.past disks b → HasRoom (disks_of result).moments → (c : Bytes4) → Holds H.held (disks_of result) c
+            → AreTold H.held H.past (disks_of result) c × LeftNow H.past (disks_of result) c × (LeftNow H.past disks c ⊎ IsBootedOrNot (found node b) (found node c)) }
         ensures keeps { (b : Bytes4) → AreTold H.held H.past disks b → HasRoom (disks_of result).moments → IfOk result (λ x. (f : Found) × (found node b ≡ Ok f) × Keeps H.held H.past x.0.disks x.0.second x.0.journal (booted f)) }
         ensures ready { IfOk result (λ x. IsReady x.0.second (H.held x.0.disks.j0) (H.held x.0.disks.j1) x.0.journal) }
         ensures node { IfOk result (λ x. x.0.journal.head.node ≡ node) }

@@ -2,7 +2,7 @@
 
 ghost use Rattle.std.specs.Prelude.{ℕ, List, Some, true, ◌≡◌, ◌+◌, ◌^◌, ◌<◌, ◌≤◌, length, OnOk, IfOk, IfSome, IsErr};
 ghost use Rattle.std.specs.Option.{option_map};
-ghost use Rattle.kp_io.specs.Crash.{LeavesIf, IsSettled, HasFront, HasRoom};
+ghost use Rattle.kp_io.specs.Crash.{LeavesIf, IsLeft, IsSettled, HasFront, HasRoom};
 ghost use Rattle.kp_io.specs.Faults.{HasCause, Rose, one_more};
 ghost use Rattle.kp_homes.specs.Slots.{Loses, is_shut, closed_head, filled, LeavesTwoIf, IsOldOrNew, IsDone};
 
@@ -36,6 +36,7 @@ pub(crate) fn close_head<D: Disk>(journal: &mut D, moments: &mut u64) -> Result<
         → OnOk result (IsSettled moments.new (closed_head xs) (D.past journal.new)) }
     ensures crash { (bound : ℕ) (xs : List ℕ) → D.held journal.old ≡ Some xs → IsSettled moments.old xs (D.past journal.old) → HasRoom moments.new → Loses bound xs
         → LeavesIf moments.old moments.new (Loses bound) (D.past journal.old) (D.past journal.new) }
+    ensures left { IsLeft (D.past journal.old) (D.held journal.old) → IsLeft (D.past journal.new) (D.held journal.new) }
     ensures moment { moments.old ≤ moments.new }
     ensures cause { HasCause (D.faults journal.old) (D.faults journal.new) result }
 {
@@ -60,6 +61,7 @@ pub(crate) fn write_image<D: Disk>(
         → OnOk result (IsSettled moments.new image.now (D.past disk.new)) }
     ensures crash { (xs : List ℕ) → D.held disk.old ≡ Some xs → IsSettled moments.old xs (D.past disk.old) → HasRoom moments.new
         → LeavesIf moments.old moments.new (HasFront 0 xs) (D.past disk.old) (D.past disk.new) }
+    ensures left { IsLeft (D.past disk.new) (D.held disk.new) }
     ensures moment { moments.old ≤ moments.new }
     ensures cause { HasCause (D.faults disk.old) (D.faults disk.new) result }
 {
@@ -87,6 +89,8 @@ pub(crate) fn new_slot<D: Disk>(
     ensures done { (xj xi : List ℕ) → D.held journal.old ≡ Some xj → D.held image.old ≡ Some xi
         → IsSettled moments.old xj (D.past journal.old) → IsSettled moments.old xi (D.past image.old) → HasRoom moments.new
         → OnOk result (IsDone moments.new (filled head body.now (closed_head xj)) (D.held journal.new) (D.past journal.new) × IsDone moments.new bytes.now (D.held image.new) (D.past image.new)) }
+    ensures left_journal { IsLeft (D.past journal.old) (D.held journal.old) → IsLeft (D.past journal.new) (D.held journal.new) }
+    ensures left_image { IsLeft (D.past image.old) (D.held image.old) → IsLeft (D.past image.new) (D.held image.new) }
     ensures moment { moments.old ≤ moments.new }
     ensures cause { IsErr result → Rose (D.faults journal.old + D.faults image.old) (D.faults journal.new + D.faults image.new) }
     ensures quiet { OnOk result (D.faults journal.new + D.faults image.new ≡ D.faults journal.old + D.faults image.old) }

@@ -1,4 +1,5 @@
 pub mod Staging
+pub mod Leaving
 pub mod HeadBytes
 pub mod Bodies
 pub mod Framing

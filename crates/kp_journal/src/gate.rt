@@ -2,7 +2,7 @@
 
 ghost use Rattle.std.specs.Prelude.{ℕ, List, Some, ◌≡◌, ◌+◌, ◌^◌, ◌<◌, ◌≤◌, length, OnOk, IfSome};
 ghost use Rattle.std.specs.Option.{option_map};
-ghost use Rattle.kp_io.specs.Crash.{LeavesIf, IsSettled, HasFront, HasRoom, IsButFor};
+ghost use Rattle.kp_io.specs.Crash.{LeavesIf, IsLeft, IsSettled, HasFront, HasRoom, IsButFor};
 ghost use Rattle.kp_io.specs.Faults.{HasCause, one_more};
 ghost use Rattle.kp_journal.specs.Gates.{staged, opened, appended, Appended};
 
@@ -19,6 +19,7 @@ pub fn stage<D: Disk>(disk: &mut D, gate: u64, body: &[u8], moments: &mut u64) -
         → OnOk result (IsSettled moments.new (staged gate body.now xs) (D.past disk.new)) }
     ensures crash { (xs : List ℕ) → D.held disk.old ≡ Some xs → IsSettled moments.old xs (D.past disk.old) → HasRoom moments.new
         → LeavesIf moments.old moments.new (HasFront (gate + 1) xs) (D.past disk.old) (D.past disk.new) }
+    ensures left { IsLeft (D.past disk.new) (D.held disk.new) }
     ensures moment { moments.old ≤ moments.new }
     ensures cause { HasCause (D.faults disk.old) (D.faults disk.new) result }
 {
@@ -38,6 +39,7 @@ pub fn open_gate<D: Disk>(disk: &mut D, gate: u64, moments: &mut u64) -> Result<
         → OnOk result (IsSettled moments.new (opened gate xs) (D.past disk.new)) }
     ensures crash { (xs : List ℕ) → D.held disk.old ≡ Some xs → IsSettled moments.old xs (D.past disk.old) → HasRoom moments.new
         → LeavesIf moments.old moments.new (IsButFor gate xs) (D.past disk.old) (D.past disk.new) }
+    ensures left { IsLeft (D.past disk.new) (D.held disk.new) }
     ensures moment { moments.old ≤ moments.new }
     ensures cause { HasCause (D.faults disk.old) (D.faults disk.new) result }
 {
@@ -61,6 +63,7 @@ pub fn append<D: Disk>(
         → OnOk result (IsSettled moments.new (appended gate body.now xs) (D.past disk.new)) }
     ensures crash { (xs : List ℕ) → D.held disk.old ≡ Some xs → IsSettled moments.old xs (D.past disk.old) → HasRoom moments.new
         → LeavesIf moments.old moments.new (Appended gate body.now xs) (D.past disk.old) (D.past disk.new) }
+    ensures left { IsLeft (D.past disk.new) (D.held disk.new) }
     ensures moment { moments.old ≤ moments.new }
     ensures cause { HasCause (D.faults disk.old) (D.faults disk.new) result }
 {

@@ -3,7 +3,7 @@
 ghost use Rattle.std.specs.Prelude.{ℕ, List, Some, ◌≡◌, ◌+◌, ◌<◌, ◌≤◌, length, take, OnOk, IfOk, IfSome};
 ghost use Rattle.std.specs.Option.{option_map};
 ghost use Rattle.std.specs.Int.{w32, w64, from_be_bytes, to_be_bytes};
-ghost use Rattle.kp_io.specs.Crash.{LeavesIf, IsSettled, HasFront, HasRoom};
+ghost use Rattle.kp_io.specs.Crash.{LeavesIf, IsLeft, IsSettled, HasFront, HasRoom};
 ghost use Rattle.kp_io.specs.Faults.{HasCause, Rose};
 ghost use Rattle.kp_journal.specs.Heads.{is_open, head_in, head_fault, generation, head_bytes, headed};
 ghost use Rattle.kp_journal.specs.Answers.{TellsHead};
@@ -121,6 +121,7 @@ pub fn write_head<D: Disk>(disk: &mut D, head: Head, moments: &mut u64) -> Resul
         → OnOk result (IsSettled moments.new (headed head xs) (D.past disk.new)) }
     ensures crash { (xs : List ℕ) → D.held disk.old ≡ Some xs → IsSettled moments.old xs (D.past disk.old) → HasRoom moments.new
         → LeavesIf moments.old moments.new (HasFront 1 xs) (D.past disk.old) (D.past disk.new) }
+    ensures left { IsLeft (D.past disk.new) (D.held disk.new) }
     ensures moment { moments.old ≤ moments.new }
     ensures cause { HasCause (D.faults disk.old) (D.faults disk.new) result }
 {

@@ -2,7 +2,7 @@
 
 ghost use Rattle.std.specs.Prelude.{ℕ, List, Some, Ok, ◌≡◌, ◌+◌, ◌^◌, ◌<◌, ◌≤◌, ◌↔◌, false, length, slice_get, OnOk, OnErr, IfOk, IfSome, IsErrOf};
 ghost use Rattle.std.specs.Option.{option_map};
-ghost use Rattle.kp_io.specs.Crash.{LeavesIf, IsSettled, HasRoom};
+ghost use Rattle.kp_io.specs.Crash.{LeavesIf, IsLeft, IsSettled, HasRoom};
 ghost use Rattle.kp_io.specs.Faults.{Rose};
 ghost use Rattle.kp_entry.specs.Records.{spelled, has_base};
 ghost use Rattle.kp_journal.specs.declared.fail.JournalFail.TheVariants as fail;
@@ -138,6 +138,7 @@ impl Journal {
         ensures crash { (xs : List ℕ) (v : Journaled) → D.held disk.old ≡ Some xs → journal_of self.old.head.node xs ≡ Ok v → v.gate ≡ self.old.gate
             → IsSettled moments.old xs (D.past disk.old) → HasRoom moments.new
             → LeavesIf moments.old moments.new (IsWithOrWithout self.old.head.node v records.now) (D.past disk.old) (D.past disk.new) }
+        ensures left { IsLeft (D.past disk.old) (D.held disk.old) → IsLeft (D.past disk.new) (D.held disk.new) }
         ensures full { (len : ℕ) → IsErrOf result (fail.Full len) ↔ ((2 ^ 40 < len) × (len ≡ self.old.gate + 6 + length (spelled records.now))) }
         ensures full_same { (len : ℕ) → IsErrOf result (fail.Full len) → (disk.new ≡ disk.old) × (moments.new ≡ moments.old) }
         ensures fault { IsErrOf result fail.DiskFault → Rose (D.faults disk.old) (D.faults disk.new) }

@@ -29,6 +29,12 @@ fail_of (Err x) = Some x.0
 abbrev pub StartsWith : ℕ → ℕ → ℕ → Kept0 → Parts → Type 0
 StartsWith me members now k p = Starts me members now (record { boot = k.boot; term = k.term; vote = k.vote; image = k.image; entries = k.rest.items }) p
 
+-- the node is this member of a cluster of so many, and has taken no event
+pub record IsNew (me members : ℕ) (p : Parts) : Type 0 where
+  pub number : (node_of p).me ≡ me
+  pub cluster : (node_of p).members ≡ members
+  pub events : p.events ≡ 0
+
 -- the node that starts with what was found
 abbrev pub begun_with : ℕ → ℕ → ℕ → Found → Node
 begun_with me members now f = begun me members f.start.boot now f.start.held (state_in f.image)

@@ -11,7 +11,7 @@ ghost use Rattle.kp_homes.specs.Opening.{AreTold, Found, Holds, IsWithin, LeftNo
 ghost use Rattle.kp_homes.specs.Stands.{Bytes4, HomeLeft, IsReady};
 ghost use Rattle.kp_kept.specs.Ahead.{nothing_waits};
 ghost use Rattle.kp_kept.specs.Keeping.{KeepsUp, waiting_of};
-ghost use Rattle.kp_kept.specs.Opening.{OpensNode, disks_of, fail_of, StartsWith};
+ghost use Rattle.kp_kept.specs.Opening.{IsNew, OpensNode, disks_of, fail_of, StartsWith};
 
 use crate::kept::Kept;
 use kp_homes::{Home, HomeFail, Kept0};
@@ -59,6 +59,7 @@ fn start<H: Disk>(
     ensures waits { IfOk result (λ k. waiting_of k ≡ nothing_waits) }
     ensures alive { IfOk result (λ k. k.death ≡ None) }
     ensures node { IfOk result (λ k. StartsWith node members now kept k.node) }
+    ensures new { IfOk result (λ k. IsNew node members k.node) }
     ensures only { (f : HomeFail) → fail_of result ≡ Some f → f ≡ home_fail.NoMemory }
 {
     let stored = stored_of(kept);
@@ -80,7 +81,7 @@ fn start<H: Disk>(
 
 impl<H: Disk> Kept<H> {
     /// Opens the home of the node of this number, of a cluster of 1, 3, 5 or 7, and starts the node with what it finds there,
-    /// with one start more, at this time in milliseconds. Nothing waits then.
+    /// with one start more, at this time in milliseconds. Nothing waits then, and the node has taken no event.
     ///
     /// A refusal hands the disks back. It is one of `Home::open`, or NoMemory where there is none for the node. A crash at any
     /// moment since the call began leaves what one just before it could leave, or a home on which opening finds what it found
@@ -103,6 +104,7 @@ impl<H: Disk> Kept<H> {
         ensures full { (slot len : ℕ) → fail_of result ≡ Some (home_fail.Full slot len) → 2 ^ 40 < len }
         ensures fault { fail_of result ≡ Some home_fail.DiskFault → Rose (home_faults H.faults disks) (home_faults H.faults (disks_of result)) }
         ensures moment { disks.moments ≤ (disks_of result).moments }
+        ensures new { IfOk result (λ k. IsNew node members k.node) }
     {
         match Home::open(alloc, disks, node) {
             Ok((home, kept)) => start(alloc, home, kept, node, members, now),

@@ -1,7 +1,7 @@
 -- Each write that acts carries the next number.
-use Rattle.std.proofs.Common.{◌≡◌, ℕ, suc, ◌+◌, ◌≤◌, ◌<◌, ◌==◌, Bool, true, false, not, ◌&&◌, ◌||◌, cond, ◌⊎◌, inl, inr, List, [], ◌∷◌, ◌++◌, length, Option, Some, None, refl, sym, ap, subst, ◌∙◌, true≢false, arith, eqb-true}
+use Rattle.std.proofs.Common.{◌≡◌, ℕ, ◌+◌, ◌==◌, Bool, true, false, not, ◌&&◌, cond, ◌⊎◌, inl, inr, List, [], ◌∷◌, ◌++◌, length, Option, Some, None, refl, sym, ap, subst, ◌∙◌, true≢false, arith, eqb-true}
 use Rattle.std.proofs.lemmas.Bool.{eq-eqb}
-use Rattle.std.specs.Ordering.{nat_cmp, eq_by_cmp}
+use Rattle.std.specs.Ordering.{nat_cmp}
 use Rattle.std.specs.Cmp.{unsigned_tied}
 use Rattle.std.specs.FinMap as map
 use Rattle.kp_model.specs.LogEntry.{LogEntry}
@@ -13,8 +13,8 @@ use Rattle.kp_model.specs.declared.reply.Reply.TheVariants as reply
 use Rattle.kp_model.specs.State.{State, empty}
 use Rattle.kp_model.specs.Step.{Outcome, replies, act, with_seq, written_by, take_body, apply}
 use Rattle.kp_model.specs.Taken.{is_next}
-use Rattle.kp_world.specs.Acted.{acts, number_in, numbers, row_behind, WritesAreCounted, OthersChangeNothing}
-use Rattle.kp_world.proofs.Standing.{Stands, StandsIn, set_stands, chosen_stands, act_stands, opened_stands, attached_stands, expired_stands}
+use Rattle.kp_world.specs.Acted.{number_in, numbers, row_behind, WritesAreCounted, OthersChangeNothing}
+use Rattle.kp_world.proofs.Standing.{Stands, StandsIn, set_stands, act_stands, opened_stands, attached_stands, expired_stands}
 
 -- no number, and as many are used as before; or the next number
 abbrev Moves : ℕ → ℕ → ℕ → List ℕ → State → Type 0

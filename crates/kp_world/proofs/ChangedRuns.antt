@@ -5,7 +5,7 @@ use Rattle.kp_jute.specs.Jute.{unsigned}
 use Rattle.kp_raft.specs.Parts.{Running}
 use Rattle.kp_raft.specs.Steps.{on_delivery}
 use Rattle.kp_world.specs.Net.{Net, Sent, Step, At, Comes, Event, Does, Tears, Starts, Commits, happens, heard, heard_by, steps, run}
-use Rattle.kp_world.specs.ChangedRuns.{ChangeAlone, delivered_by, came_by, steps_by, happens_by, LogsAreCompared, VotesAreSingle, VotesAreRecorded, TermsAreLookedAt}
+use Rattle.kp_world.specs.ChangedRuns.{ChangeAlone, delivered_by, came_by, steps_by, happens_by, LogsAreCompared, VotesAreSingle, VotesAreRecorded, TermsAreLookedAt, TailsAreDropped}
 
 delivered_same : (n : ℕ) (w : Net ℕ) (m : Sent ℕ) (j : ℕ) (stop : Option ℕ) (v : Option Running) → delivered_by (on_delivery {I = ℕ}) n w m j stop v ≡ heard_by n w m j stop v
 delivered_same n w m j stop None = refl
@@ -44,3 +44,7 @@ votes_are_recorded = record { one = refl; three = refl }
 pub terms_are_looked_at : TermsAreLookedAt
 unfolding unsigned
 terms_are_looked_at = record { one = refl; two = refl }
+
+pub tails_are_dropped : TailsAreDropped
+unfolding unsigned
+tails_are_dropped = record { one = refl; two = refl }

@@ -1,5 +1,5 @@
 -- How far a session's writes of an epoch have come, and how each entry moves it.
-use Rattle.std.proofs.Common.{◌≡◌, ℕ, ◌+◌, ◌≤◌, ◌<◌, ◌==◌, Bool, true, false, not, ◌&&◌, ◌||◌, cond, ◌⊎◌, inl, inr, List, [], ◌∷◌, ◌++◌, length, Option, Some, None, refl, sym, ap, subst, ◌∙◌, true≢false, arith, eqb-true}
+use Rattle.std.proofs.Common.{◌≡◌, ℕ, ◌+◌, ◌≤◌, ◌<◌, Bool, true, false, not, ◌||◌, cond, List, [], ◌∷◌, ◌++◌, length, Option, Some, None, refl, sym, ap, subst, ◌∙◌, arith}
 use Rattle.std.specs.Prelude.{ℤ, nat_le, unwrap_or}
 use Rattle.std.specs.List.{list_any}
 use Rattle.std.specs.Str.{bytes_eq}
@@ -19,7 +19,7 @@ use Rattle.kp_model.specs.declared.command.Cmd.TheVariants as cmd
 use Rattle.kp_model.specs.Path.{is_well_formed}
 use Rattle.kp_model.specs.Fixed.{fixed}
 use Rattle.kp_model.specs.State.{State, Sessions, is_held}
-use Rattle.kp_model.specs.Step.{Outcome, replies, unless, created, deleted, set, set_acl_fails, set_acl, act_on, error_of, op_reply, failure, stop_at, multi, shown_id, with_id, renewed, shows, closed, act, new_session, opened, taken_over, joined, attached_to, expired, with_seq}
+use Rattle.kp_model.specs.Step.{Outcome, replies, unless, created, deleted, set, set_acl_fails, set_acl, act_on, error_of, op_reply, failure, stop_at, multi, shown_id, with_id, renewed, shows, closed, act, new_session, opened, taken_over, joined, attached_to, expired}
 use Rattle.kp_model.proofs.Holders.{act_on_sessions}
 use Rattle.kp_model.proofs.Maps.{equal}
 

@@ -1,16 +1,17 @@
 -- What the rules are for: runs of networks of three members of which one rule is changed, where two members apply different entries.
-use Rattle.std.specs.Prelude.{◌≡◌, ℕ, cond, List, [], ◌∷◌, map, length, Option, None, Some, slice_get}
+use Rattle.std.specs.Prelude.{◌≡◌, ℕ, Bool, cond, not, ◌&&◌, nat_eq, nat_lt, List, [], ◌∷◌, ◌++◌, map, length, Option, None, Some, slice_get}
 use Rattle.kp_model.specs.LogEntry.{LogEntry}
 use Rattle.kp_model.specs.declared.entry.Body.TheVariants as body
 use Rattle.kp_entry.specs.declared.record.Record.{Record}
 use Rattle.kp_entry.specs.declared.record.Record.TheVariants as record_
-use Rattle.kp_entry.specs.Log.{based_at}
+use Rattle.kp_entry.specs.Heads.{appended}
+use Rattle.kp_entry.specs.Log.{Log, based_at, last_index, term_of, behind}
 use Rattle.kp_entry.specs.Held.{Held}
 use Rattle.kp_raft.specs.declared.mail.Mail.{Mail}
 use Rattle.kp_raft.specs.declared.mail.Mail.TheVariants as mail
 use Rattle.kp_raft.specs.declared.event.RaftEvent.TheVariants as event
-use Rattle.kp_raft.specs.Parts.{Running, Outcome}
-use Rattle.kp_raft.specs.Steps.{on_delivery}
+use Rattle.kp_raft.specs.Parts.{Running, Outcome, to}
+use Rattle.kp_raft.specs.Steps.{on_delivery, image_of}
 use Rattle.kp_world.specs.Net.{Net, Sent, Act, Step, At, Comes, Event, Does, Tears, Starts, Commits, acted, did, is_member, taken_of, front_behind, started_at, committed_at, full, run, blank}
 use Rattle.kp_world.specs.NetworkRuns.{written, opening}
 
@@ -159,3 +160,46 @@ older =
 pub record TermsAreLookedAt : Type 0 where
   pub one : applied_by by_count older 1 ≡ opening 1 ∷ []
   pub two : applied_by by_count older 2 ≡ opening 2 ∷ []
+
+-- ---- an image behind which a stale tail stays, as if it were the leader's
+
+-- the log goes on behind the index, at which it has another term
+abbrev pub is_stale : Log → ℕ → ℕ → Bool
+is_stale log index index_term = nat_lt index (last_index log) && not (nat_eq (term_of log index) index_term)
+
+-- the entries behind the image stay, and the answer is for them too
+abbrev pub with_tail : ℕ → Log → ℕ → ℕ → ℕ → Outcome ℕ → Outcome ℕ
+with_tail me log term from index o = record {
+  records = o.records ++ appended (behind log index);
+  running = o.running;
+  mail = to from (mail.InstallRep term me (last_index log));
+}
+
+-- where the image isn't taken, and where nothing behind it is stale, nothing is changed
+abbrev pub with_stale : ℕ → Log → ℕ → ℕ → ℕ → ℕ → Option ℕ → Outcome ℕ → Outcome ℕ
+with_stale me log term from index index_term None o = o
+with_stale me log term from index index_term (Some image) o = cond (is_stale log index index_term) (with_tail me log term from index o) o
+
+abbrev pub holding_on : Hearing
+holding_on n me h v j (mail.VoteReq term from last last_term) = on_delivery n me h v j (mail.VoteReq term from last last_term)
+holding_on n me h v j (mail.VoteRep term from granted) = on_delivery n me h v j (mail.VoteRep term from granted)
+holding_on n me h v j (mail.Append m) = on_delivery n me h v j (mail.Append m)
+holding_on n me h v j (mail.AppendRep term from ok last heard) = on_delivery n me h v j (mail.AppendRep term from ok last heard)
+holding_on n me h v j (mail.Install term from index index_term image) = with_stale me h.log term from index index_term (image_of n me h v (event.Deliver (mail.Install term from index index_term image))) (on_delivery n me h v j (mail.Install term from index index_term image))
+holding_on n me h v j (mail.InstallRep term from index) = on_delivery n me h v j (mail.InstallRep term from index)
+holding_on n me h v j (mail.Forward term from sent) = on_delivery n me h v j (mail.Forward term from sent)
+
+-- member 3 leads in term 1 and writes two entries that reach nobody; member 1 leads in term 2, its no-op is applied, and it makes a snapshot and writes an entry; member 3 takes its image and answers for the entry behind it, so that member 1 applies its own; member 2 leads in term 3 by the vote of member 3, and its no-op takes that one's place
+abbrev pub outdated : List (Event ℕ)
+outdated =
+    Does (At 3 event.Timeout) ∷ Does (Comes 0 0) ∷ Does (Comes 0 0) ∷ Does (At 3 (event.Propose 5 (body.Noop ∷ [])))
+    ∷ Does (At 1 event.Timeout) ∷ Does (Comes 0 0) ∷ Does (Comes 0 0)
+    ∷ Does (At 1 (event.Beat 0 [])) ∷ Does (Comes 0 1) ∷ Does (Comes 0 0) ∷ Commits 1
+    ∷ Does (At 1 (event.Compact 1)) ∷ Does (At 1 (event.Propose 7 (body.Noop ∷ [])))
+    ∷ Does (At 1 (event.Beat 1 (77 ∷ []))) ∷ Does (Comes 1 0) ∷ Does (Comes 0 0) ∷ Commits 1
+    ∷ Does (At 2 event.Timeout) ∷ Does (Comes 1 0) ∷ Does (Comes 0 0)
+    ∷ Does (At 2 (event.Beat 0 [])) ∷ Does (Comes 1 1) ∷ Does (Comes 0 0) ∷ Commits 2 ∷ Commits 2 ∷ []
+
+pub record TailsAreDropped : Type 0 where
+  pub one : applied_by holding_on outdated 1 ≡ opening 2 ∷ written 2 7 ∷ []
+  pub two : applied_by holding_on outdated 2 ≡ opening 2 ∷ opening 3 ∷ []

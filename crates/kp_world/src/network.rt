@@ -3,7 +3,7 @@
 
 ghost use Rattle.kp_world.specs.Net.{OneLog, OneList};
 ghost use Rattle.kp_world.specs.NetworkRuns.{LeaderIsElected, EntriesAreApplied, EntriesAreDropped, StepIsTorn, ImageIsTaken};
-ghost use Rattle.kp_world.specs.ChangedRuns.{ChangeAlone, LogsAreCompared, VotesAreSingle, VotesAreRecorded, TermsAreLookedAt};
+ghost use Rattle.kp_world.specs.ChangedRuns.{ChangeAlone, LogsAreCompared, VotesAreSingle, VotesAreRecorded, TermsAreLookedAt, TailsAreDropped};
 
 /// Whatever happens, of what any two members have applied, at one moment and at any later one, one
 /// begins the other: of any number of members, of every list of events, with images of any type.
@@ -35,11 +35,13 @@ pub fn networks_of_three()
 ///
 /// `alone`: but for that rule the network is the one of the laws. `compared`: a vote without a look at the
 /// logs. `single`: a second vote in a term. `recorded`: a vote that isn't recorded. `own_term`: an entry of
-/// an older term that is committed by count.
+/// an older term that is committed by count. `dropped`: an image behind which a stale tail stays, with an
+/// answer that counts it as the leader's.
 pub fn network_rules_are_needed()
     ensures alone { ChangeAlone }
     ensures compared { LogsAreCompared }
     ensures single { VotesAreSingle }
     ensures recorded { VotesAreRecorded }
     ensures own_term { TermsAreLookedAt }
+    ensures dropped { TailsAreDropped }
 {}

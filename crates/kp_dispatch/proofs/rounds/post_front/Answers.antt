@@ -8,7 +8,7 @@ use Rattle.kp_dispatch.proofs.Leaving.{bad_more}
 use Rattle.kp_dispatch.proofs.rounds.post_front.Goals as goal
 
 pub loop-thought-init : goal.loop-thought-init
-loop-thought-init g c = record { next = tt; finite = tt; left = search rules; seats = c.requires.seats; posts = ([], search rules, posts_none g.M.Carried.receiver c.args.seats.now, refl) }
+loop-thought-init g c = record { next = tt; finite = tt; left = search rules; seats = c.requires.seats; posts = ([], search rules, posts_none c.args.seats.now, refl) }
 
 pub loop-thought-preserved : goal.loop-thought-preserved
 loop-thought-preserved g c = let p = c.loop-thought.invariant.posts in
@@ -22,7 +22,7 @@ loop-thought-preserved g c = let p = c.loop-thought.invariant.posts in
       posts = (
         p.0 ++ c.in-Some.thought ∷ [],
         append_assoc p.0 (c.in-Some.thought ∷ []) (into_iter_items c.next.new.self) ∙ ap (λ l. p.0 ++ l) (sym step) ∙ p.1,
-        posts_thought g.M.Carried.receiver p.0 c.in-Some.thought c.args.seats.now c.loop-thought.seats c.post_thought-said.new.seats p.2 c.post_thought-said.ensures.posts,
+        posts_thought p.0 c.in-Some.thought c.args.seats.now c.loop-thought.seats c.post_thought-said.new.seats p.2 c.post_thought-said.ensures.posts,
         found ∙ ap (λ o. first_of o (bad_of c.post_thought-said.result)) p.3 ∙ ap (λ o. first_of (first_bad p.0) o) place ∙ sym (bad_more p.0 c.in-Some.thought),
       );
     }

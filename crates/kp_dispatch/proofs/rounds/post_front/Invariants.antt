@@ -12,5 +12,5 @@ invariant-loop-thought g l = record {
   finite : (goal.iterator-loop-thought g).is_finite l.thought-iterator;
   left : into_iter_len l.thought-iterator ≡ length (into_iter_items l.thought-iterator);
   seats : HasSeats l.links l.seats;
-  posts : (done : List (Thought _)) × (done ++ into_iter_items l.thought-iterator ≡ l.fn.front.items) × Posts g.M.Carried.receiver (mails_of done) l.fn.seats l.seats × (l.bad ≡ first_bad done);
+  posts : (done : List (Thought _)) × (done ++ into_iter_items l.thought-iterator ≡ l.fn.front.items) × Posts (mails_of done) l.fn.seats l.seats × (l.bad ≡ first_bad done);
 }

@@ -5,7 +5,7 @@ use Rattle.kp_dispatch.proofs.ServedRounds.{round_left}
 use Rattle.kp_dispatch.proofs.rounds.turn_round.Goals as goal
 
 pub returns-in-Ok-clause-tells : goal.returns-in-Ok-clause-tells
-returns-in-Ok-clause-tells g c = round_left (g.C.Clock.may c.args.clock.now) c.args.conn (g.W.Sink.held c.args.output.now) (g.W.Sink.held c.leave.new.output) (g.W.Sink.faults c.args.output.now) (g.W.Sink.faults c.leave.new.output) g.K.Mail.Carried.receiver
+returns-in-Ok-clause-tells g c = round_left (g.C.Clock.may c.args.clock.now) c.args.conn (g.W.Sink.held c.args.output.now) (g.W.Sink.held c.leave.new.output) (g.W.Sink.faults c.args.output.now) (g.W.Sink.faults c.leave.new.output)
     c.args.seat.now record { turn = c.think_round.new.seat; stop = c.args.seat.now.stop; links = c.leave.new.seats; told = c.think_round.new.told } c.args.piece c.in-Ok.round c.leave.result c.in-Ok.ensures.tells c.leave.ensures.posts c.leave.ensures.tells refl
 
 pub end_of-requires : goal.end_of-requires

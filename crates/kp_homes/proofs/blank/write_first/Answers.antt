@@ -5,6 +5,7 @@ use Rattle.kp_homes.specs.Stands.{Bytes4}
 use Rattle.kp_homes.proofs.Standing.{rest_left, rest_later, two_left, two_told_after}
 use Rattle.kp_homes.proofs.Earlier.{two_before}
 use Rattle.kp_homes.proofs.Making.{blank_loses, first_slot, blank_made, blank_either, first_ready}
+use Rattle.kp_homes.proofs.Sound.{rest_sound, two_sound}
 use Rattle.kp_homes.proofs.blank.write_first.Goals as goal
 
 pub returns-clause-crash : goal.returns-clause-crash
@@ -57,3 +58,10 @@ returns-clause-ready g c =
     on_ok_weaker c.new_slot.result
     (λ was. first_ready c.args.head c.args.records.now c.bytes-body.result.now _ _ c.requires.fits c.requires.no_image c.bytes-body.ensures.spelled c.bytes-body.ensures.run c.requires.no_base c.bytes-body.ensures.small was)
     c.new_slot.ensures.held
+
+pub returns-clause-sound : goal.returns-clause-sound
+returns-clause-sound g c b rest none room =
+    let later = c.new_slot.ensures.moment in
+    let run = c.new_slot.ensures.crash 0 b.j0 b.i0 rest.at_j0.holds rest.at_i0.holds rest.at_j0.rests rest.at_i0.rests room (blank_loses b.j0 b.j1 none) in
+    let both = two_sound _ _ _ b.j0 b.i0 _ _ _ _ _ _ _ _ rest.at_j0 rest.at_i0 run c.new_slot.ensures.left_journal c.new_slot.ensures.left_image in
+    record { on_j0 = both.0; on_i0 = both.1; on_j1 = rest_sound _ _ b.j1 _ _ later rest.at_j1; on_i1 = rest_sound _ _ b.i1 _ _ later rest.at_i1 }

@@ -3,6 +3,7 @@ use Rattle.std.proofs.lemmas.Result.{on_ok_weaker}
 use Rattle.kp_io.specs.Crash.{HasRoom}
 use Rattle.kp_homes.proofs.Looking.{rose_from}
 use Rattle.kp_homes.proofs.Beginning.{untouched_left, untouched_rest, held_holds, all_ok}
+use Rattle.kp_homes.proofs.Sound.{untouched_sound}
 use Rattle.kp_homes.proofs.open.begin.Goals as goal
 
 pub returns-clause-read : goal.returns-clause-read
@@ -26,3 +27,6 @@ returns-clause-quiet g c = on_ok_weaker c.look.result (λ e. e ∙ c.in_ok-settl
 
 pub returns-clause-fault : goal.returns-clause-fault
 returns-clause-fault g c e = rose_from _ _ _ c.in_ok-settle_all.ensures.quiet (c.look.ensures.fault e)
+
+pub returns-clause-sound : goal.returns-clause-sound
+returns-clause-sound g c b told left = untouched_sound g.H.Disk.held g.H.Disk.past _ _ c.look.ensures.same c.look.ensures.moment (c.settle_all.ensures.sound b told left)

@@ -6,6 +6,7 @@ use Rattle.kp_homes.specs.Stands.{Bytes4, Stands, StandsForEither, with_more}
 use Rattle.kp_homes.specs.Opening.{next_boot}
 use Rattle.kp_homes.specs.Homes.{disks_of}
 use Rattle.kp_homes.proofs.Standing.{rest_only}
+use Rattle.kp_homes.proofs.Sound.{rests_sound}
 use Rattle.kp_homes.proofs.open.start_live.Goals as goal
 
 pub returns-in-Ok-clause-crash : goal.returns-in-Ok-clause-crash
@@ -20,3 +21,6 @@ returns-in-Ok-clause-rest g c b v st room =
 
 pub returns-in-Err-clause-crash : goal.returns-in-Err-clause-crash
 returns-in-Err-clause-crash g c b v st room n d lt left = inl (rest_only g.H.Disk.held g.H.Disk.past c.args.live.journal.head.node c.args.disks b v st.rest st.value n d lt left)
+
+pub returns-in-Err-clause-sound : goal.returns-in-Err-clause-sound
+returns-in-Err-clause-sound g c b v st room = rests_sound g.H.Disk.held g.H.Disk.past c.args.disks b st.rest

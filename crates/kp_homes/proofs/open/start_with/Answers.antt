@@ -1,6 +1,7 @@
 use Rattle.kp_homes.specs.declared.fail.HomeFail.TheVariants as home_fail
 use Rattle.kp_homes.specs.Stands.{with_more}
 use Rattle.kp_homes.proofs.Beginning.{writing_starts, err_of, closed_either, closed_earlier, closed_rose}
+use Rattle.kp_homes.proofs.Sound.{closed_sound}
 use Rattle.kp_homes.proofs.open.start_with.Goals as goal
 
 pub returns-in-Err-clause-crash : goal.returns-in-Err-clause-crash
@@ -18,3 +19,6 @@ returns-in-Err-clause-full g c slot len e = ((c.in-Err.ensures.full slot len).0 
 
 pub returns-in-Err-clause-fault : goal.returns-in-Err-clause-fault
 returns-in-Err-clause-fault g c e = closed_rose g.H.Disk.faults c.args.disks c.append_records.new.self.disks c.close.result c.close.ensures (c.in-Err.ensures.fault (err_of c.in-Err.fail home_fail.DiskFault e))
+
+pub returns-in-Err-clause-sound : goal.returns-in-Err-clause-sound
+returns-in-Err-clause-sound g c b v st room = closed_sound g.H.Disk.held g.H.Disk.past c.append_records.new.self.disks c.close.result c.close.ensures (λ r. c.in-Err.ensures.sound b v st r) room

@@ -8,6 +8,7 @@ use Rattle.kp_journal.proofs.Staging.{either_way, some_of}
 use Rattle.kp_homes.specs.Slots.{Loses, is_shut, closed_head}
 use Rattle.kp_homes.proofs.Known.{known, wrote_known, synced_known, looked, looks_still, known_leaves, known_settled, failed_write, failed_sync}
 use Rattle.kp_homes.proofs.Two.{closing_loses, shut_loses, closed_is_shut, closed_same, closed_other, same_held, other_held}
+use Rattle.kp_journal.proofs.Leaving.{sync_left}
 use Rattle.kp_homes.proofs.slot.close_head.Goals as goal
 
 pub returns-in_err-shut-clause-crash : goal.returns-in_err-shut-clause-crash
@@ -60,3 +61,6 @@ pub returns-clause-held : goal.returns-clause-held
 returns-clause-held g c =
     on_ok_weaker c.sync.result (λ keeps. keeps ∙ c.in_ok-write_at.ensures.bytes ∙ ap (option_map (written_at 0 (0 ∷ []))) c.is_shut.ensures.keeps ∙ other_held _ c.in_ok-shut.shut c.in_ok-shut.ensures.answer c.if-shut.false)
     c.sync.ensures.keeps
+
+pub returns-clause-left : goal.returns-clause-left
+returns-clause-left g c was = sync_left c.sync.result _ _ _ _ _ c.sync.ensures.keeps c.sync.ensures.past c.sync.ensures.past_err c.sync.ensures.was_left

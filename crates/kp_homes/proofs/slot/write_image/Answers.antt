@@ -7,6 +7,7 @@ use Rattle.kp_io.proofs.Behind.{had_room}
 use Rattle.kp_journal.proofs.Staging.{either_way}
 use Rattle.kp_homes.proofs.Known.{known, wrote_known, cut_known, synced_known, known_leaves, known_settled, failed_write, failed_cut, failed_sync}
 use Rattle.kp_homes.proofs.Two.{image_is}
+use Rattle.kp_journal.proofs.Leaving.{sync_left}
 use Rattle.kp_homes.proofs.slot.write_image.Goals as goal
 
 pub returns-in_err-write_at-clause-crash : goal.returns-in_err-write_at-clause-crash
@@ -43,3 +44,6 @@ returns-clause-crash g c xs held is room =
     either_way c.sync.result (c.sync.ensures.past c.args.image.now h) c.sync.ensures.past_err
     (λ was. known_leaves _ _ Q _ _ _ (synced_known _ _ _ Q _ c.args.image.now _ _ _ k2 c.sync.ensures.moment room was (λ d left. refl) refl))
     (λ was. (failed_sync _ _ _ Q _ _ _ _ k2 c.sync.ensures.moment room was (λ d left. refl)))
+
+pub returns-clause-left : goal.returns-clause-left
+returns-clause-left g c = sync_left c.sync.result _ _ _ _ _ c.sync.ensures.keeps c.sync.ensures.past c.sync.ensures.past_err c.sync.ensures.was_left

@@ -5,6 +5,7 @@ use Rattle.kp_io.specs.Crash.{IsButFor}
 use Rattle.kp_io.specs.Disks.{written_at}
 use Rattle.kp_io.proofs.Behind.{had_room, stepped, byte_written, byte_unsynced, byte_synced, synced_settled, torn_run, passes, same_but_for}
 use Rattle.kp_journal.specs.Gates.{opened}
+use Rattle.kp_journal.proofs.Leaving.{sync_left}
 use Rattle.kp_journal.proofs.Staging.{still, held_opened, opened_is, opened_but, either_way, some_of}
 use Rattle.kp_journal.proofs.gate.open_gate.Goals as goal
 
@@ -36,3 +37,6 @@ returns-clause-crash g c xs held is room =
     (λ was. byte_synced _ _ _ c.args.gate xs (opened c.args.gate xs) _ _ _ torn (stepped _ _ c.sync.ensures.moment room) was (opened_but c.args.gate xs))
     (⊎_elim (λ was. byte_unsynced _ _ _ c.args.gate xs _ _ _ torn (stepped _ _ c.sync.ensures.moment room) was)
     (λ same. passes _ _ _ (IsButFor c.args.gate xs) _ _ _ (torn_run _ _ c.args.gate xs _ _ torn) c.sync.ensures.moment same))
+
+pub returns-clause-left : goal.returns-clause-left
+returns-clause-left g c = sync_left c.sync.result _ _ _ _ _ c.sync.ensures.keeps c.sync.ensures.past c.sync.ensures.past_err c.sync.ensures.was_left

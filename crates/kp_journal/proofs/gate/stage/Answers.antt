@@ -5,6 +5,7 @@ use Rattle.kp_io.specs.Crash.{HasFront}
 use Rattle.kp_io.specs.Disks.{written_at}
 use Rattle.kp_io.proofs.Behind.{had_room, stepped, begun, unsynced_behind, synced_behind, synced_settled, behind_leaves, passes}
 use Rattle.kp_journal.specs.Gates.{staged}
+use Rattle.kp_journal.proofs.Leaving.{sync_left}
 use Rattle.kp_journal.proofs.Staging.{held_staged, staged_front, either_way, some_of, writes_on}
 use Rattle.kp_journal.proofs.gate.stage.Goals as goal
 
@@ -82,3 +83,6 @@ returns-clause-crash g c xs held is room =
     (λ was. synced_behind _ _ _ k xs (staged c.args.gate c.args.body.now xs) _ _ _ b3 (stepped _ _ c.sync.ensures.moment room) was (staged_front c.args.gate c.args.body.now xs lt))
     (⊎_elim (λ was. behind_leaves _ _ k xs _ _ (unsynced_behind _ _ _ k xs _ _ _ b3 (stepped _ _ c.sync.ensures.moment room) was))
     (λ same. passes _ _ _ (HasFront k xs) _ _ _ (behind_leaves _ _ k xs _ _ b3) c.sync.ensures.moment same))
+
+pub returns-clause-left : goal.returns-clause-left
+returns-clause-left g c = sync_left c.sync.result _ _ _ _ _ c.sync.ensures.keeps c.sync.ensures.past c.sync.ensures.past_err c.sync.ensures.was_left

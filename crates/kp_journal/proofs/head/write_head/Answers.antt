@@ -5,6 +5,7 @@ use Rattle.kp_io.specs.Crash.{HasFront}
 use Rattle.kp_io.specs.Disks.{cut_to}
 use Rattle.kp_io.proofs.Behind.{had_room, stepped, begun, cut_behind, unsynced_behind, synced_behind, synced_settled, behind_leaves, passes}
 use Rattle.kp_journal.specs.Heads.{headed}
+use Rattle.kp_journal.proofs.Leaving.{sync_left}
 use Rattle.kp_journal.proofs.Staging.{either_way, some_of, writes_on}
 use Rattle.kp_journal.proofs.HeadBytes.{held_headed, headed_front}
 use Rattle.kp_journal.proofs.head.write_head.Goals as goal
@@ -55,3 +56,6 @@ returns-clause-crash g c xs held is room =
     (λ was. synced_behind _ _ _ 1 xs (headed c.args.head xs) _ _ _ b2 (stepped _ _ c.sync.ensures.moment room) was (headed_front c.args.head xs lt))
     (⊎_elim (λ was. behind_leaves _ _ 1 xs _ _ (unsynced_behind _ _ _ 1 xs _ _ _ b2 (stepped _ _ c.sync.ensures.moment room) was))
     (λ same. passes _ _ _ (HasFront 1 xs) _ _ _ (behind_leaves _ _ 1 xs _ _ b2) c.sync.ensures.moment same))
+
+pub returns-clause-left : goal.returns-clause-left
+returns-clause-left g c = sync_left c.sync.result _ _ _ _ _ c.sync.ensures.keeps c.sync.ensures.past c.sync.ensures.past_err c.sync.ensures.was_left

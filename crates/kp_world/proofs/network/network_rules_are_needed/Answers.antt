@@ -1,4 +1,4 @@
-use Rattle.kp_world.proofs.ChangedRuns.{change_alone, logs_are_compared, votes_are_single, votes_are_recorded, terms_are_looked_at}
+use Rattle.kp_world.proofs.ChangedRuns.{change_alone, logs_are_compared, votes_are_single, votes_are_recorded, terms_are_looked_at, tails_are_dropped}
 use Rattle.kp_world.proofs.network.network_rules_are_needed.Goals as goal
 
 pub returns-clause-alone : goal.returns-clause-alone
@@ -15,3 +15,6 @@ returns-clause-recorded c = votes_are_recorded
 
 pub returns-clause-own_term : goal.returns-clause-own_term
 returns-clause-own_term c = terms_are_looked_at
+
+pub returns-clause-dropped : goal.returns-clause-dropped
+returns-clause-dropped c = tails_are_dropped

@@ -2,7 +2,7 @@ use Rattle.std.proofs.lemmas.Result.{on_ok_weaker}
 use Rattle.kp_homes.specs.Stands.{slot_number, with_more}
 use Rattle.kp_homes.proofs.Finding.{either_found, only_found}
 use Rattle.kp_homes.proofs.Lifting.{found_more}
-use Rattle.kp_homes.proofs.Standing.{rest_only}
+use Rattle.kp_homes.proofs.Holding.{either_held}
 use Rattle.kp_homes.proofs.home.Home.append_batch.Goals as goal
 
 pub returns-clause-crash : goal.returns-clause-crash
@@ -27,3 +27,7 @@ returns-clause-keeps g c f is room fits =
 
 pub returns-clause-earlier : goal.returns-clause-earlier
 returns-clause-earlier g c f is room = c.append_records.ensures.earlier is.bytes is.value is.stands room
+
+pub returns-clause-left : goal.returns-clause-left
+returns-clause-left g c f is room fits =
+    either_held g.H.Disk.held g.H.Disk.past _ _ _ _ _ c.append_records.ensures.moment (returns-clause-crash g c f is room fits) (c.append_records.ensures.sound is.bytes is.value is.stands room)

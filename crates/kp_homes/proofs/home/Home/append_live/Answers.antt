@@ -9,6 +9,7 @@ use Rattle.kp_homes.specs.Stands.{Bytes4, stands, with_more}
 use Rattle.kp_homes.proofs.Standing.{rest_left, run_left, rest_made, rest_later, live_first, live_second, append_first, append_second, kept_first, kept_second}
 use Rattle.kp_homes.proofs.Earlier.{run_before}
 use Rattle.kp_homes.proofs.Ready.{on_ok_four, ready_ok, ready_true, ready_false, is_ready_true, is_ready_false}
+use Rattle.kp_homes.proofs.Sound.{rest_sound, run_sound}
 use Rattle.kp_homes.proofs.home.Home.append_live.Goals as goal
 
 pub returns-then-self-clause-crash : goal.returns-then-self-clause-crash
@@ -126,3 +127,29 @@ returns-then-self-clause-head g c = on_ok_weaker c.append_batch.result (λ made.
 
 pub returns-else-self-clause-head : goal.returns-else-self-clause-head
 returns-else-self-clause-head g c = on_ok_weaker c.append_batch-else-self.result (λ made. ap (λ (i : Journaled). i.head) made) c.append_batch-else-self.ensures.journal
+
+pub returns-then-self-clause-sound : goal.returns-then-self-clause-sound
+returns-then-self-clause-sound g c b v st room =
+    let node = c.args.self.now.journal.head.node in
+    let later = c.append_batch.ensures.moment in
+    let j = live_second node b v (st.live ∙ ap Some c.if-self.true) st.value in
+    let run = c.append_batch.ensures.crash b.j1 v.journal st.rest.at_j1.holds j st.gate st.rest.at_j1.rests room in
+    record {
+      on_j0 = rest_sound _ _ b.j0 _ _ later st.rest.at_j0;
+      on_j1 = run_sound _ _ (IsWithOrWithout node v.journal c.args.records.now) b.j1 _ _ _ _ st.rest.at_j1 run c.append_batch.ensures.left;
+      on_i0 = rest_sound _ _ b.i0 _ _ later st.rest.at_i0;
+      on_i1 = rest_sound _ _ b.i1 _ _ later st.rest.at_i1;
+    }
+
+pub returns-else-self-clause-sound : goal.returns-else-self-clause-sound
+returns-else-self-clause-sound g c b v st room =
+    let node = c.args.self.now.journal.head.node in
+    let later = c.append_batch-else-self.ensures.moment in
+    let j = live_first node b v (st.live ∙ ap Some c.if-self.false) st.value in
+    let run = c.append_batch-else-self.ensures.crash b.j0 v.journal st.rest.at_j0.holds j st.gate st.rest.at_j0.rests room in
+    record {
+      on_j0 = run_sound _ _ (IsWithOrWithout node v.journal c.args.records.now) b.j0 _ _ _ _ st.rest.at_j0 run c.append_batch-else-self.ensures.left;
+      on_j1 = rest_sound _ _ b.j1 _ _ later st.rest.at_j1;
+      on_i0 = rest_sound _ _ b.i0 _ _ later st.rest.at_i0;
+      on_i1 = rest_sound _ _ b.i1 _ _ later st.rest.at_i1;
+    }

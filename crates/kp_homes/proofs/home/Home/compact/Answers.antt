@@ -5,6 +5,7 @@ use Rattle.kp_homes.specs.declared.fail.HomeFail.TheVariants as home_fail
 use Rattle.kp_homes.specs.Stands.{slot_number, next_head, made}
 use Rattle.kp_homes.proofs.Carrying.{slot_found}
 use Rattle.kp_homes.proofs.Finding.{either_found, only_found}
+use Rattle.kp_homes.proofs.Holding.{either_held}
 use Rattle.kp_homes.proofs.home.Home.compact.Goals as goal
 
 pub returns-clause-crash : goal.returns-clause-crash
@@ -46,3 +47,7 @@ pub returns-clause-full : goal.returns-clause-full
 returns-clause-full g c slot len =
     subst (λ (bytes : List ℕ). IsErrOf c.make_slot.result (home_fail.Full slot len) ↔ ((2 ^ 40 < len) × (len ≡ length bytes) × (slot ≡ cond c.args.self.now.second 2 3))) c.image_bytes-image.ensures.bytes
     (c.make_slot.ensures.full slot len)
+
+pub returns-clause-left : goal.returns-clause-left
+returns-clause-left g c f is room below fits =
+    either_held g.H.Disk.held g.H.Disk.past _ _ _ _ _ c.make_slot.ensures.moment (returns-clause-crash g c f is room below fits) (c.make_slot.ensures.sound is.bytes is.value is.stands room)

@@ -5,6 +5,7 @@ use Rattle.kp_journal.specs.declared.head.Head.{Head}
 use Rattle.kp_journal.specs.Journals.{Journaled, unread}
 use Rattle.kp_homes.specs.Stands.{stands, made, next_head, IsReady, StandsForEither}
 use Rattle.kp_homes.proofs.Standing.{rest_only}
+use Rattle.kp_homes.proofs.Sound.{rests_sound}
 use Rattle.kp_homes.proofs.home.Home.make_slot.Goals as goal
 
 pub returns-then-len-gt-MOST-clause-crash : goal.returns-then-len-gt-MOST-clause-crash
@@ -55,3 +56,6 @@ returns-in-Err-clause-crash g c b v st room below =
 
 pub returns-in-Ok-clause-head : goal.returns-in-Ok-clause-head
 returns-in-Ok-clause-head g c = ap (λ (j : Journaled). j.head) c.fresh.ensures ∙ c.next_head-head.ensures.next ∙ ap (λ (h : Head). next_head h (length c.args.image.now)) c.head.ensures
+
+pub returns-then-len-gt-MOST-clause-sound : goal.returns-then-len-gt-MOST-clause-sound
+returns-then-len-gt-MOST-clause-sound g c b v st room = rests_sound g.H.Disk.held g.H.Disk.past _ b st.rest

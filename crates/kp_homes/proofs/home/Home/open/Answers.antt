@@ -3,6 +3,7 @@ use Rattle.kp_io.specs.Crash.{HasRoom}
 use Rattle.kp_homes.specs.declared.fail.HomeFail.TheVariants as home_fail
 use Rattle.kp_homes.specs.Opening.{first_head}
 use Rattle.kp_homes.proofs.Beginning.{stands_live, live_left, live_opens, live_opened, blank_left, blank_opens, blank_opened, in_order, told_holds, nodes_as, as_found, as_live, as_node}
+use Rattle.kp_homes.proofs.Holding.{opening_held}
 use Rattle.kp_homes.proofs.home.Home.open.Goals as goal
 
 pub returns-in-Ok-Some-clause-found : goal.returns-in-Ok-Some-clause-found
@@ -55,3 +56,23 @@ returns-in-Ok-None-clause-full g c slot len e = absurd (c.start_blank.ensures.on
 
 pub returns-in-Err-clause-crash : goal.returns-in-Err-clause-crash
 returns-in-Err-clause-crash g c b told room n d lt left = inl (c.begin.ensures.left b told room n d lt left)
+
+pub returns-in-Ok-Some-clause-left : goal.returns-in-Ok-Some-clause-left
+returns-in-Ok-Some-clause-left g c b told now room d holds =
+    let room1 : HasRoom c.begin.new.disks.moments = omega (arith, room, c.start_live.ensures.moment) in
+    let live = c.in-Ok-Some.live in
+    let is = as_live c.args.node b _ (Some c.in-Ok-Some.live) c.in-Ok-Some.field-0-is (c.in-Ok-Some.ensures.live b (told_holds g.H.Disk.held g.H.Disk.past c.args.disks b told)) in
+    let st = stands_live g.H.Disk.held g.H.Disk.past _ c.args.node b live (c.in-Ok-Some.ensures.rest b told room1) is (as_node c.args.node _ c.in-Ok-Some.live c.in-Ok-Some.field-0-is c.in-Ok-Some.ensures.node) in
+    opening_held g.H.Disk.held g.H.Disk.past c.args.disks.moments _ d _ (omega (arith, c.begin.ensures.moment, c.start_live.ensures.moment)) (c.start_live.ensures.sound b is.1.0 st room) holds
+    (λ n lt left. returns-in-Ok-Some-clause-crash g c b told room n d lt left)
+
+pub returns-in-Ok-None-clause-left : goal.returns-in-Ok-None-clause-left
+returns-in-Ok-None-clause-left g c b told now room d holds =
+    let room1 : HasRoom c.begin.new.disks.moments = omega (arith, room, c.start_blank.ensures.moment) in
+    let none = as_live c.args.node b _ None c.in-Ok-None.field-0-is (c.in-Ok-None.ensures.live b (told_holds g.H.Disk.held g.H.Disk.past c.args.disks b told)) in
+    opening_held g.H.Disk.held g.H.Disk.past c.args.disks.moments _ d _ (omega (arith, c.begin.ensures.moment, c.start_blank.ensures.moment)) (c.start_blank.ensures.sound b (c.in-Ok-None.ensures.rest b told room1) none room) holds
+    (λ n lt left. returns-in-Ok-None-clause-crash g c b told room n d lt left)
+
+pub returns-in-Err-clause-left : goal.returns-in-Err-clause-left
+returns-in-Err-clause-left g c b told now room d holds =
+    opening_held g.H.Disk.held g.H.Disk.past c.args.disks.moments _ d _ c.begin.ensures.moment (c.begin.ensures.sound b told now) holds (λ n lt left. returns-in-Err-clause-crash g c b told room n d lt left)

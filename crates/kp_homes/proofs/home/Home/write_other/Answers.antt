@@ -8,6 +8,7 @@ use Rattle.kp_homes.proofs.Standing.{rest_left, rest_later, two_left, two_told_a
 use Rattle.kp_homes.proofs.Earlier.{two_before}
 use Rattle.kp_homes.proofs.Ready.{ready_true, ready_false}
 use Rattle.kp_homes.proofs.Making.{made_slot, head_generation, next_generation, first_loses, second_loses, new_first, new_second, compact_first, compact_second, ready_made}
+use Rattle.kp_homes.proofs.Sound.{rest_sound, two_sound}
 use Rattle.kp_homes.proofs.home.Home.write_other.Goals as goal
 
 pub returns-then-self-clause-crash : goal.returns-then-self-clause-crash
@@ -133,3 +134,19 @@ returns-else-self-clause-earlier g c b v st room n d le left =
     let run = c.new_slot-else-self.ensures.crash (generation b.j0 + 1) b.j1 b.i1 st.rest.at_j1.holds st.rest.at_i1.holds st.rest.at_j1.rests st.rest.at_i1.rests room (second_loses b.j0 b.j1 live) in
     let both = two_before _ _ n _ d.j1 d.i1 b.j1 b.i1 _ _ _ _ _ _ st.rest.at_j1 st.rest.at_i1 run le left.on_j1 left.on_i1 in
     record { on_j1 = both.0; on_i1 = both.1; on_j0 = left.on_j0; on_i0 = left.on_i0 }
+
+pub returns-then-self-clause-sound : goal.returns-then-self-clause-sound
+returns-then-self-clause-sound g c b v st room =
+    let later = c.new_slot.ensures.moment in
+    let live = st.live ∙ ap Some c.if-self.true in
+    let run = c.new_slot.ensures.crash (generation b.j1) b.j0 b.i0 st.rest.at_j0.holds st.rest.at_i0.holds st.rest.at_j0.rests st.rest.at_i0.rests room (first_loses b.j0 b.j1 live) in
+    let both = two_sound _ _ _ b.j0 b.i0 _ _ _ _ _ _ _ _ st.rest.at_j0 st.rest.at_i0 run c.new_slot.ensures.left_journal c.new_slot.ensures.left_image in
+    record { on_j0 = both.0; on_i0 = both.1; on_j1 = rest_sound _ _ b.j1 _ _ later st.rest.at_j1; on_i1 = rest_sound _ _ b.i1 _ _ later st.rest.at_i1 }
+
+pub returns-else-self-clause-sound : goal.returns-else-self-clause-sound
+returns-else-self-clause-sound g c b v st room =
+    let later = c.new_slot-else-self.ensures.moment in
+    let live = st.live ∙ ap Some c.if-self.false in
+    let run = c.new_slot-else-self.ensures.crash (generation b.j0 + 1) b.j1 b.i1 st.rest.at_j1.holds st.rest.at_i1.holds st.rest.at_j1.rests st.rest.at_i1.rests room (second_loses b.j0 b.j1 live) in
+    let both = two_sound _ _ _ b.j1 b.i1 _ _ _ _ _ _ _ _ st.rest.at_j1 st.rest.at_i1 run c.new_slot-else-self.ensures.left_journal c.new_slot-else-self.ensures.left_image in
+    record { on_j1 = both.0; on_i1 = both.1; on_j0 = rest_sound _ _ b.j0 _ _ later st.rest.at_j0; on_i0 = rest_sound _ _ b.i0 _ _ later st.rest.at_i0 }

@@ -1,0 +1,4 @@
+pub mod Moves
+pub mod Takes
+pub mod Naming
+pub mod Polls

@@ -20,7 +20,8 @@ use Rattle.kp_script.specs.Lines.{line_of}
 use Rattle.kp_step.specs.Node.{Node, Images}
 use Rattle.kp_step.specs.Asking.{Words}
 use Rattle.kp_step.specs.Step.{Stepped, step}
-use Rattle.kp_play.specs.Stage.{Home, Thought, Member, Stage, ample, opened, member_at, letter_at, with_member, with_letters}
+use Rattle.kp_ample.specs.Ample.{ample}
+use Rattle.kp_play.specs.Stage.{Home, Thought, Member, Stage, opened, member_at, letter_at, with_member, with_letters}
 use Rattle.kp_play.specs.Texts.{numbered, said_text, up_text, letters_text, look_text}
 use Rattle.kp_play.specs.Keeping.{Full, put, kept, torn}
 use lib.Chars.{codes}

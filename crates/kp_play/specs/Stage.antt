@@ -6,7 +6,6 @@ use Rattle.kp_entry.specs.Records.{spelled}
 use Rattle.kp_raft.specs.declared.mail.Mail.{Mail}
 use Rattle.kp_snapshot.specs.Snapshots.{Snapshot}
 use Rattle.kp_homes.specs.Opening.{Found, first_records, blank_found, booted}
-use Rattle.kp_step.specs.Choices.{Choices}
 use Rattle.kp_step.specs.Node.{Node}
 use Rattle.kp_step.specs.Runs.{begun}
 
@@ -39,10 +38,6 @@ pub record Stage : Type 0 where
   pub time : ℕ
   -- how many lines were done
   pub lines : ℕ
-
--- memory is found for everything
-abbrev pub ample : Choices
-ample = record { room = None; luck = λ k. record { events = None; requests = None; answers = None } }
 
 -- the tree of an image
 abbrev pub tree_of : Option Snapshot → State

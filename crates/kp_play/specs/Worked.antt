@@ -68,17 +68,17 @@ restart_rows =
     numbered (codes "down") 3 ∷ codes "off" ∷ codes "off" ∷ up_row 3 2 0 0 ∷ codes "on"
     ∷ state_row (codes "follower") 1 1 0 ∷ message_text 7 3 1 (message.AppendRep 1 true 1) ∷ []
 
--- member 1 of three holds two steps back and lets them out together; a third member tears its step, and another stops with what it held
+-- member 1 holds two steps back and lets them out together; member 2 stops in a step of which none of its records stays, and then in one of which one stays; member 3 stops with what it held
 abbrev pub holding : List ScriptLine
 holding =
     script.Hold 1 ∷ event (Accept 1 (replicate 16 0)) ∷ event (Timeout 1) ∷ event (Deliver 1) ∷ script.Torn 0 (Beat 1) ∷ script.Flush 1 ∷ script.Flush 1
-    ∷ script.Torn 1 (Timeout 2) ∷ script.Start 2 ∷ script.Torn 3 (Commit 2) ∷ script.Hold 3 ∷ event (Timeout 3) ∷ script.Crash 3 ∷ script.Start 3 ∷ []
+    ∷ script.Torn 0 (Timeout 2) ∷ script.Start 2 ∷ script.Torn 1 (Timeout 2) ∷ script.Start 2 ∷ script.Torn 3 (Commit 2) ∷ script.Hold 3 ∷ event (Timeout 3) ∷ script.Crash 3 ∷ script.Start 3 ∷ []
 
 abbrev pub holding_rows : List (List ℕ)
 holding_rows =
     numbered (codes "hold") 1 ∷ numbered (codes "held") 1 ∷ numbered (codes "held") 2 ∷ codes "none" ∷ codes "held"
     ∷ numbered (codes "flush") 2 ∷ numbered (codes "conn") 1 ∷ state_row (codes "candidate") 1 0 0 ∷ message_text 1 1 2 (message.VoteReq 1 0 0) ∷ message_text 2 1 3 (message.VoteReq 1 0 0)
-    ∷ codes "flush 0" ∷ numbered (codes "torn") 1 ∷ up_row 2 2 1 0 ∷ codes "done none"
+    ∷ codes "flush 0" ∷ numbered (codes "torn") 0 ∷ up_row 2 2 0 0 ∷ numbered (codes "torn") 1 ∷ up_row 2 3 1 0 ∷ codes "done none"
     ∷ numbered (codes "hold") 3 ∷ numbered (codes "held") 1 ∷ numbered (codes "down") 3 ∷ up_row 3 2 0 0 ∷ []
 
 pub record ScriptsAreAsWorked : Type 0 where

@@ -1,5 +1,5 @@
 -- What one event makes of a world, for a member that runs.
-use Rattle.std.proofs.Common.{◌≡◌, ℕ, zero, suc, Bool, true, false, cond, List, [], ◌∷◌, ◌++◌, take, slice_get, Option, Some, None, refl, sym, ap, subst, ◌∙◌}
+use Rattle.std.proofs.Common.{◌≡◌, ℕ, zero, suc, true, cond, List, [], ◌∷◌, ◌++◌, take, Option, Some, None, refl, sym, ap, subst, ◌∙◌}
 use Rattle.std.specs.List.{AllByRecursion}
 use Rattle.kp_model.specs.LogEntry.{LogEntry}
 use Rattle.kp_model.specs.State.{State}
@@ -7,7 +7,6 @@ use Rattle.kp_entry.specs.declared.record.Record.{Record}
 use Rattle.kp_entry.specs.declared.record.Record.TheVariants as record_
 use Rattle.kp_entry.specs.Held.{Held, replay}
 use Rattle.kp_raft.specs.declared.mail.Mail.{Mail}
-use Rattle.kp_event.specs.declared.event.NodeEvent.{NodeEvent}
 use Rattle.kp_event.specs.declared.event.NodeEventKind.{NodeEventKind}
 use Rattle.kp_event.specs.declared.event.NodeEventKind.TheVariants as kind
 use Rattle.kp_snapshot.specs.Snapshots.{Snapshot}
@@ -18,7 +17,8 @@ use Rattle.kp_step.specs.Step.{Stepped, step, state_of}
 use Rattle.kp_world.specs.Net.{Sent, sent_with, is_member}
 use Rattle.kp_cluster.specs.World as world
 use Rattle.kp_cluster.specs.World.{World, Event, Act, At, Comes, Does, Tears, did, acts, heard, acted, heard_by, happens, done_after, image_behind, stored_behind, is_own}
-use Rattle.kp_play.specs.Stage.{ample, tree_of}
+use Rattle.kp_ample.specs.Ample.{ample}
+use Rattle.kp_play.specs.Stage.{tree_of}
 use Rattle.kp_play.specs.Keeping.{newer, image_with, replayed}
 use Rattle.kp_worlds.specs.Standing.{ShowsItsState, WasSent, MayCome, IsStored}
 use Rattle.kp_worlds.proofs.Lists.{set_there, set_elsewhere}
@@ -38,9 +38,10 @@ all_later x xs (l ∷ ls) p = (later x xs l p.0, all_later x xs ls p.1)
 
 pub all_sent : (list : List LogEntry) (ms : List (ℕ × Mail Snapshot)) (ys : List (Sent Snapshot)) → AllByRecursion (WasSent (sent_with list ms ++ ys)) ms
 all_sent list [] ys = tt
-all_sent list (m ∷ ms) ys =
-    (record { place = zero; letter = record { to = m.0; message = m.1; list = list }; there = refl; to = refl; message = refl },
-     all_later (record { to = m.0; message = m.1; list = list }) (sent_with list ms ++ ys) ms (all_sent list ms ys))
+all_sent list (m ∷ ms) ys = (
+  record { place = zero; letter = record { to = m.0; message = m.1; list = list }; there = refl; to = refl; message = refl },
+  all_later (record { to = m.0; message = m.1; list = list }) (sent_with list ms ++ ys) ms (all_sent list ms ys),
+)
 
 pub may_before : (xs ys : List (Sent Snapshot)) (k : ℕ) (v : NodeEventKind (Mail Snapshot)) → MayCome ys k v → MayCome (xs ++ ys) k v
 may_before xs ys k (kind.Deliver m) s = sent_before xs ys (k, m) s

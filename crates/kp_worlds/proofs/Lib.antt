@@ -4,3 +4,4 @@ mod Sequences
 mod Members
 mod Lines
 mod Plays
+mod Trees

@@ -1,13 +1,8 @@
 -- Each line, done on a stage that stands for a world, is some events of that world.
-use Rattle.std.proofs.Common.{◌≡◌, ℕ, ◌+◌, ◌≤◌, ◌<◌, ◌^◌, min, Bool, true, false, List, [], ◌∷◌, ◌++◌, length, take, Option, Some, None, Result, Ok, Err, refl, sym, ap, subst, ◌∙◌, arith}
-use Rattle.std.specs.Prelude.{nat_lt}
-use Rattle.std.specs.List.{AllByRecursion}
+use Rattle.std.proofs.Common.{◌≡◌, ℕ, ◌+◌, ◌≤◌, ◌<◌, ◌^◌, min, true, List, [], ◌∷◌, ◌++◌, length, take, Option, Some, None, Result, Ok, Err, refl, sym, ap, subst, ◌∙◌, arith}
 use Rattle.std.specs.Option.{option_map}
-use Rattle.kp_model.specs.State.{State}
 use Rattle.kp_entry.specs.declared.record.Record.TheVariants as record_
-use Rattle.kp_entry.specs.Held.{Held}
 use Rattle.kp_raft.specs.declared.mail.Mail.{Mail}
-use Rattle.kp_raft.specs.Numbers.{set_at}
 use Rattle.kp_event.specs.declared.event.NodeEvent.{NodeEvent}
 use Rattle.kp_event.specs.declared.event.NodeEventKind.{NodeEventKind}
 use Rattle.kp_event.specs.declared.event.NodeEventKind.TheVariants as kind
@@ -22,18 +17,19 @@ use Rattle.kp_step.specs.Node.{Node, Images}
 use Rattle.kp_step.specs.Asking.{Words}
 use Rattle.kp_step.specs.Step.{Stepped, step}
 use Rattle.kp_step.specs.Runs.{begun}
-use Rattle.kp_world.specs.Net.{Sent, is_member}
+use Rattle.kp_world.specs.Net.{is_member}
 use Rattle.kp_cluster.specs.World as world
 use Rattle.kp_cluster.specs.World.{World, Event, Does, Tears, Starts, At, did, happens, run, started}
-use Rattle.kp_play.specs.Stage.{Home, Thought, Member, Stage, ample, tree_of, opened, member_at, letter_at, with_member, with_letters}
+use Rattle.kp_ample.specs.Ample.{ample}
+use Rattle.kp_play.specs.Stage.{Home, Thought, Member, Stage, opened, member_at, letter_at}
 use Rattle.kp_play.specs.Texts.{numbered, said_text}
 use Rattle.kp_play.specs.Keeping.{Full, replayed, found_behind, put, kept, torn}
-use Rattle.kp_play.specs.Playing.{Turn, Done, prints, stands, all_mail, issue, event_of, comes, is_idle, thought_of, step_of, hold_back, let_out, stepped, event_by, event_at, event_turn, stops_in, torn_step, torn_held, torn_by, torn_at, torn_turn, size, crash_by, starts_with, start_on, start_by, hold_with, hold_by, flush_with, flush_by, look_by, at_member, line_turn}
-use Rattle.kp_worlds.specs.Standing.{ShowsItsState, WasSent, MayCome, IsStored, LeadTo, IsAhead, NodeIs, MemberIs, StandsFor, Happened}
+use Rattle.kp_play.specs.Playing.{Turn, prints, stands, all_mail, issue, event_of, comes, is_idle, thought_of, hold_back, let_out, stepped, event_by, event_at, event_turn, stops_in, torn_step, torn_held, torn_by, torn_at, torn_turn, size, crash_by, start_on, start_by, hold_with, hold_by, flush_with, flush_by, look_by, at_member, line_turn}
+use Rattle.kp_worlds.specs.Standing.{ShowsItsState, WasSent, MayCome, IsStored, NodeIs, MemberIs, StandsFor, Happened}
 use lib.Chars.{codes}
 use Rattle.kp_worlds.proofs.Lists.{pick, OfSome, all_join, all_at, IsNumber, at_number_is, member_is, set_there, set_elsewhere}
-use Rattle.kp_worlds.proofs.Effects.{Makes, makes, Leaves, whole, torn as torn_leaves}
-use Rattle.kp_worlds.proofs.Sequences.{Out, one_out, all_out}
+use Rattle.kp_worlds.proofs.Effects.{Makes, makes, Leaves, torn as torn_leaves}
+use Rattle.kp_worlds.proofs.Sequences.{Out, all_out}
 use Rattle.kp_worlds.proofs.Members.{FoundIs, put_finds, kept_finds, torn_finds, behind_boot, replayed_boot, replayed_nothing, lead_more, post, exchange, same_leaves}
 
 -- a boot of a number below the last one is the next number
@@ -73,13 +69,16 @@ module _ (words : Words) (im : Images Snapshot) (shows : ShowsItsState im) (n : 
     issued_by : (x : Node) (ts : List Thought) (before : List (List ℕ)) → Out words im shows n k is w (found_behind m.home.found ts) (Some x) (all_mail ts)
         → (r : Result Home Full) → FoundIs (found_behind m.home.found ts) r → Good (issue st k x ts before r)
     issued_by x ts before out (Err full) f = tt
-    issued_by x ts before out (Ok h) f = (refl, record {
-      events = out.events;
-      stands = post words im n (stands st k h (Some x)) (run words im n out.events w)
-          (exchange words im n st w s k m there (found_behind m.home.found ts) (Some x) (all_mail ts) (run words im n out.events w) out.leaves
-          (record { home = h; node = Some x; held = None }) f refl (subst (λ (b : ℕ). b ≤ st.lines + 1) (sym (behind_boot m.home.found ts)) boot_low))
-          (all_mail ts) out.leaves.mail;
-    })
+    issued_by x ts before out (Ok h) f = (
+      refl,
+      record {
+        events = out.events;
+        stands = post words im n (stands st k h (Some x)) (run words im n out.events w)
+            (exchange words im n st w s k m there (found_behind m.home.found ts) (Some x) (all_mail ts) (run words im n out.events w) out.leaves
+            (record { home = h; node = Some x; held = None }) f refl (subst (λ (b : ℕ). b ≤ st.lines + 1) (sym (behind_boot m.home.found ts)) boot_low))
+            (all_mail ts) out.leaves.mail;
+      },
+    )
 
     issues : (x : Node) (ts : List Thought) (before : List (List ℕ)) → Out words im shows n k is w (found_behind m.home.found ts) (Some x) (all_mail ts) → Good (issue st k x ts before (kept m.home ts x))
     issues x ts before out = issued_by x ts before out (kept m.home ts x) (kept_finds m.home ts x)
@@ -106,11 +105,14 @@ module _ (words : Words) (im : Images Snapshot) (shows : ShowsItsState im) (n : 
       }
 
       holds : (ts : List Thought) → m.held ≡ Some ts → m.node ≡ Some x → Good (hold_back words im st k m ts o)
-      holds ts h f = (refl, record {
-        events = [];
-        stands = exchange words im n st w s k m there m.home.found (w.members k).node [] w (same_leaves words im n st w s k m.home.found old.home)
-            (record { home = m.home; node = Some o.node; held = Some (ts ++ thought_of o ∷ []) }) refl (held_node ts (w.members k).node (ahead_so ts x h f)) boot_low;
-      })
+      holds ts h f = (
+        refl,
+        record {
+          events = [];
+          stands = exchange words im n st w s k m there m.home.found (w.members k).node [] w (same_leaves words im n st w s k m.home.found old.home)
+              (record { home = m.home; node = Some o.node; held = Some (ts ++ thought_of o ∷ []) }) refl (held_node ts (w.members k).node (ahead_so ts x h f)) boot_low;
+        },
+      )
 
       steps : (h : Option (List Thought)) → m.held ≡ h → m.node ≡ Some x → Good (stepped words im st k m h o)
       steps None h f = lets h f
@@ -120,12 +122,15 @@ module _ (words : Words) (im : Images Snapshot) (shows : ShowsItsState im) (n : 
 
       stopped : (j stayed : ℕ) (y : Makes words im n w k x o (Some j)) → (r : Result Home Full) → FoundIs (replayed m.home.found o.image (take j o.records)) r → Good (stops_in words im st k stayed r)
       stopped j stayed y (Err full) f = tt
-      stopped j stayed y (Ok h) f = (refl, record {
-        events = Tears ample y.act j ∷ [];
-        stands = exchange words im n st w s k m there (replayed m.home.found o.image (take j o.records)) None [] (happens words im n w (Tears ample y.act j))
-            (subst (Leaves w k (replayed m.home.found o.image (take j o.records)) None []) (sym y.is) (torn_leaves im shows w k y.list o m.home.found old.home j))
-            (record { home = h; node = None; held = None }) f refl (subst (λ (b : ℕ). b ≤ st.lines + 1) (sym (replayed_boot m.home.found o.image (take j o.records))) boot_low);
-      })
+      stopped j stayed y (Ok h) f = (
+        refl,
+        record {
+          events = Tears ample y.act j ∷ [];
+          stands = exchange words im n st w s k m there (replayed m.home.found o.image (take j o.records)) None [] (happens words im n w (Tears ample y.act j))
+              (subst (Leaves w k (replayed m.home.found o.image (take j o.records)) None []) (sym y.is) (torn_leaves im shows w k y.list o m.home.found old.home j))
+              (record { home = h; node = None; held = None }) f refl (subst (λ (b : ℕ). b ≤ st.lines + 1) (sym (replayed_boot m.home.found o.image (take j o.records))) boot_low);
+        },
+      )
 
       tears : (j : ℕ) → m.held ≡ None → m.node ≡ Some x → Good (torn_step words im st j k m o)
       tears j h f = pick Good (is_idle o.said) (prints st (said_text o.node o.said)) (stops_in words im st k (min j (length o.records)) (torn m.home j (thought_of o) o.node)) (λ _. stays)
@@ -155,19 +160,23 @@ module _ (words : Words) (im : Images Snapshot) (shows : ShowsItsState im) (n : 
     crash_leaves : (z : Node) → (w.members k).node ≡ Some z → (e : Event Snapshot) × Leaves w k m.home.found None [] (happens words im n w e)
     crash_leaves z e =
         let o : Stepped Snapshot = step words im ample z (record { now = 0; kind = kind.Timeout }) in
-        let y : Makes words im n w k z o (Some 0) = makes words im n w k z is e 0 (Some 0) kind.Timeout tt in
-        (Tears ample y.act 0, subst (λ (f : Found). Leaves w k f None [] (happens words im n w (Tears ample y.act 0))) (replayed_nothing m.home.found o.image o.records)
-        (subst (Leaves w k (replayed m.home.found o.image (take 0 o.records)) None []) (sym y.is) (torn_leaves im shows w k y.list o m.home.found old.home 0)))
+        let y : Makes words im n w k z o (Some 0) = makes words im n w k z is e 0 (Some 0) kind.Timeout tt in (
+          Tears ample y.act 0,
+          subst (λ (f : Found). Leaves w k f None [] (happens words im n w (Tears ample y.act 0))) (replayed_nothing m.home.found o.image o.records)
+              (subst (Leaves w k (replayed m.home.found o.image (take 0 o.records)) None []) (sym y.is) (torn_leaves im shows w k y.list o m.home.found old.home 0)),
+        )
 
     crash_good : (p : Option Node) → m.node ≡ p → Good (crash_by st k m p)
     crash_good None f = stays
     crash_good (Some x) f =
         let z = runs_of x m.held (w.members k).node (subst (λ (o : Option Node). NodeIs words im w.sent k m.held o (w.members k).node) f old.node) in
-        let c = crash_leaves z.0 z.1 in
-        (refl, record {
-          events = c.0 ∷ [];
-          stands = exchange words im n st w s k m there m.home.found None [] (happens words im n w c.0) c.1 (record { home = m.home; node = None; held = None }) refl refl boot_low;
-        })
+        let c = crash_leaves z.0 z.1 in (
+          refl,
+          record {
+            events = c.0 ∷ [];
+            stands = exchange words im n st w s k m there m.home.found None [] (happens words im n w c.0) c.1 (record { home = m.home; node = None; held = None }) refl refl boot_low;
+          },
+        )
 
     -- a start
     boot_is : next_boot m.home.found.start.boot ≡ (w.members k).boot + 1
@@ -187,11 +196,14 @@ module _ (words : Words) (im : Images Snapshot) (shows : ShowsItsState im) (n : 
 
     starts_on : (r : Result Home Full) → FoundIs (booted m.home.found) r → Good (start_on st k r)
     starts_on (Err full) f = tt
-    starts_on (Ok h) f = (refl, record {
-      events = Starts k st.time ∷ [];
-      stands = exchange words im n st w s k m there (booted m.home.found) (Some (opened k (size st) st.time h.found)) [] (happens words im n w (Starts k st.time)) (start_leaves h f)
-          (record { home = h; node = Some (opened k (size st) st.time h.found); held = None }) f refl boot_next;
-    })
+    starts_on (Ok h) f = (
+      refl,
+      record {
+        events = Starts k st.time ∷ [];
+        stands = exchange words im n st w s k m there (booted m.home.found) (Some (opened k (size st) st.time h.found)) [] (happens words im n w (Starts k st.time)) (start_leaves h f)
+            (record { home = h; node = Some (opened k (size st) st.time h.found); held = None }) f refl boot_next;
+      },
+    )
       where
         boot_next : next_boot m.home.found.start.boot ≤ st.lines + 1
         boot_next = let b = low k m there in let n = next_is m.home.found.start.boot (omega (arith, b, few)) in omega (arith, b, n)
@@ -202,11 +214,14 @@ module _ (words : Words) (im : Images Snapshot) (shows : ShowsItsState im) (n : 
 
     -- holding begins
     hold_with_good : (x : Node) (h : Option (List Thought)) → m.held ≡ h → m.node ≡ Some x → Good (hold_with st k m h)
-    hold_with_good x None h f = (refl, record {
-      events = [];
-      stands = exchange words im n st w s k m there m.home.found (w.members k).node [] w (same_leaves words im n st w s k m.home.found old.home) (record { home = m.home; node = m.node; held = Some [] }) refl
-          (subst (λ (o : Option Node). NodeIs words im w.sent k (Some []) o (w.members k).node) (sym f) (subst (NodeIs words im w.sent k (Some []) (Some x)) (sym (runs_so h ∙ f)) (record { events = []; may = tt; lead = refl }))) boot_low;
-    })
+    hold_with_good x None h f = (
+      refl,
+      record {
+        events = [];
+        stands = exchange words im n st w s k m there m.home.found (w.members k).node [] w (same_leaves words im n st w s k m.home.found old.home) (record { home = m.home; node = m.node; held = Some [] }) refl
+            (subst (λ (o : Option Node). NodeIs words im w.sent k (Some []) o (w.members k).node) (sym f) (subst (NodeIs words im w.sent k (Some []) (Some x)) (sym (runs_so h ∙ f)) (record { events = []; may = tt; lead = refl }))) boot_low;
+      },
+    )
     hold_with_good x (Some ts) h f = stays
 
     hold_good : (p : Option Node) → m.node ≡ p → Good (hold_by st k m p)

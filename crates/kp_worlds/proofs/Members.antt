@@ -1,5 +1,5 @@
 -- What a change of one member makes of a stage that stands for a world.
-use Rattle.std.proofs.Common.{◌≡◌, ℕ, ◌+◌, ◌-◌, ◌≤◌, ◌<◌, ◌^◌, not, Bool, true, false, cond, List, [], ◌∷◌, ◌++◌, length, take, set, Option, Some, None, Result, Ok, Err, refl, sym, ap, subst, ◌∙◌, arith, length-set}
+use Rattle.std.proofs.Common.{◌≡◌, ℕ, ◌+◌, ◌-◌, ◌≤◌, not, cond, List, [], ◌∷◌, ◌++◌, length, take, Option, Some, None, Result, Ok, Err, refl, sym, ap, subst, ◌∙◌, length-set}
 use Rattle.std.specs.Prelude.{nat_lt, nat_le}
 use Rattle.std.specs.List.{AllByRecursion}
 use Rattle.kp_entry.specs.declared.record.Record.{Record}
@@ -15,11 +15,12 @@ use Rattle.kp_step.specs.Step.{step}
 use Rattle.kp_world.specs.Net.{Sent}
 use Rattle.kp_cluster.specs.World as world
 use Rattle.kp_cluster.specs.World.{World}
-use Rattle.kp_play.specs.Stage.{Home, Thought, Member, Stage, ample, gate_behind, member_at, with_member, with_letters}
+use Rattle.kp_ample.specs.Ample.{ample}
+use Rattle.kp_play.specs.Stage.{Home, Thought, Member, Stage, gate_behind, member_at, with_member, with_letters}
 use Rattle.kp_play.specs.Keeping.{Full, most, own_records, replayed, found_behind, Waits, waits_of, put, put_image, put_waits, kept, put_some, torn}
 use Rattle.kp_play.specs.Playing.{thought_of}
-use Rattle.kp_worlds.specs.Standing.{WasSent, MayCome, IsStored, LeadTo, IsAhead, NodeIs, MemberIs, StandsFor}
-use Rattle.kp_worlds.proofs.Lists.{pick, all_join, IsNumber, at_number_is, at_set}
+use Rattle.kp_worlds.specs.Standing.{WasSent, IsStored, LeadTo, NodeIs, MemberIs, StandsFor}
+use Rattle.kp_worlds.proofs.Lists.{pick, all_join, at_number_is, at_set}
 use Rattle.kp_worlds.proofs.Effects.{Leaves}
 use Rattle.kp_worlds.proofs.Sequences.{all_before, all_may}
 

@@ -9,10 +9,11 @@ use Rattle.kp_step.specs.Node.{Node, Images}
 use Rattle.kp_step.specs.Asking.{Words}
 use Rattle.kp_step.specs.Step.{Stepped, step}
 use Rattle.kp_world.specs.Net.{Sent, is_member}
-use Rattle.kp_cluster.specs.World.{World, Event, Does, did, happens, run}
-use Rattle.kp_play.specs.Stage.{Thought, ample}
+use Rattle.kp_cluster.specs.World.{World, Event, Does, happens, run}
+use Rattle.kp_ample.specs.Ample.{ample}
+use Rattle.kp_play.specs.Stage.{Thought}
 use Rattle.kp_play.specs.Keeping.{replayed, found_behind}
-use Rattle.kp_play.specs.Playing.{all_mail, thought_of}
+use Rattle.kp_play.specs.Playing.{all_mail}
 use Rattle.kp_worlds.specs.Standing.{ShowsItsState, WasSent, MayCome, IsStored, LeadTo}
 use Rattle.kp_worlds.proofs.Lists.{all_join, all_turn}
 use Rattle.kp_worlds.proofs.Effects.{Makes, makes, Leaves, whole, sent_before, may_before}
@@ -47,9 +48,11 @@ module _ (words : Words) (im : Images Snapshot) (shows : ShowsItsState im) (n k 
   pub one_out : (w : World Snapshot) (x : Node) (f : Found) → (w.members k).node ≡ Some x → IsStored f (w.members k) → (v : NodeEvent (Mail Snapshot)) → MayCome w.sent k v.kind
       → (e : Event Snapshot) × Leaves w k (replayed f (step words im ample x v).image (step words im ample x v).records) (Some (step words im ample x v).node) (step words im ample x v).mail (happens words im n w e)
   one_out w x f runs stored v may =
-      let m : Makes words im n w k x (step words im ample x v) None = makes words im n w k x member runs v.now None v.kind may in
-      (Does ample m.act, subst (Leaves w k (replayed f (step words im ample x v).image (step words im ample x v).records) (Some (step words im ample x v).node) (step words im ample x v).mail) (sym m.is)
-      (whole im shows w k m.list (step words im ample x v) f stored))
+      let m : Makes words im n w k x (step words im ample x v) None = makes words im n w k x member runs v.now None v.kind may in (
+        Does ample m.act,
+        subst (Leaves w k (replayed f (step words im ample x v).image (step words im ample x v).records) (Some (step words im ample x v).node) (step words im ample x v).mail) (sym m.is)
+            (whole im shows w k m.list (step words im ample x v) f stored),
+      )
 
   pub all_out : (vs : List (NodeEvent (Mail Snapshot))) (ts : List Thought) (w : World Snapshot) (x y : Node) (f : Found) → (w.members k).node ≡ Some x → IsStored f (w.members k)
       → AllByRecursion (λ (v : NodeEvent (Mail Snapshot)). MayCome w.sent k v.kind) vs → LeadTo words im x vs ts y → Out w (found_behind f ts) (Some y) (all_mail ts)

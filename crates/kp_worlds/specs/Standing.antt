@@ -1,11 +1,6 @@
 -- A stage stands for a world: the members keep the same, their nodes are the same, and all messages of the one were sent in the other.
 use Rattle.std.specs.Prelude.{◌≡◌, ◌≤◌, ◌<◌, ◌+◌, ◌^◌, ℕ, List, [], ◌∷◌, length, slice_get, Option, None, Some, Ok}
 use Rattle.std.specs.List.{AllByRecursion}
-use mathlib.Core.List.{IsPrefix}
-use Rattle.std.specs.Prelude.{◌⊎◌, ◌++◌}
-use Rattle.kp_model.specs.LogEntry.{LogEntry}
-use Rattle.kp_model.specs.State.{empty}
-use Rattle.kp_model.specs.Store.{after}
 use Rattle.kp_raft.specs.declared.mail.Mail.{Mail}
 use Rattle.kp_event.specs.declared.event.NodeEvent.{NodeEvent}
 use Rattle.kp_event.specs.declared.event.NodeEventKind.{NodeEventKind}
@@ -13,14 +8,15 @@ use Rattle.kp_event.specs.declared.event.NodeEventKind.TheVariants as kind
 use Rattle.kp_snapshot.specs.Snapshots.{Snapshot}
 use Rattle.kp_homes.specs.Opening.{Found}
 use Rattle.kp_script.specs.declared.line.ScriptLine.{ScriptLine}
-use Rattle.kp_step.specs.Node.{Node, Images, unapplied, latest}
+use Rattle.kp_step.specs.Node.{Node, Images}
 use Rattle.kp_step.specs.Asking.{Words}
 use Rattle.kp_step.specs.Step.{step}
 use Rattle.kp_world.specs.Net.{Sent}
 use Rattle.kp_cluster.specs.World as world
 use Rattle.kp_cluster.specs.World.{World, Event, run, blank}
+use Rattle.kp_ample.specs.Ample.{ample}
 use Rattle.kp_play.specs.Stage as stage
-use Rattle.kp_play.specs.Stage.{Thought, Member, Stage, ample, tree_of, member_at}
+use Rattle.kp_play.specs.Stage.{Thought, Member, Stage, tree_of, member_at}
 use Rattle.kp_play.specs.Playing.{Done, thought_of, plays}
 
 -- an image shows the state that it holds

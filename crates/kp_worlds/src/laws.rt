@@ -1,6 +1,10 @@
-//! The law of scripts. The contract of the function is the law; the function does nothing.
+//! The laws of scripts. The contract of each function is a law; the function does nothing.
 
+ghost use Rattle.kp_worlds.specs.OneTree.{ScriptsAreOneTree};
 ghost use Rattle.kp_worlds.specs.Standing.{LinesAreEvents, ScriptsAreWorlds};
+
+use kp_cluster::one_tree;
+use kp_snapshot::Image;
 
 /// What lines leave on a stage stands for what events make of the world of nodes for which the stage stood before:
 /// every member keeps the same in its home, every node is the same, where it holds nothing back, and behind the steps
@@ -11,3 +15,13 @@ pub fn scripts_are_worlds()
     ensures lines { LinesAreEvents }
     ensures scripts { ScriptsAreWorlds }
 {}
+
+/// So the members of a script are one tree: of what any two of them have applied, at one moment and at the same or any
+/// later one, one begins the other; the committed state of each node is the empty tree behind what its member has
+/// applied, and its uncommitted state that behind the unapplied entries of its log too.
+pub fn scripts_are_one_tree()
+    ensures { ScriptsAreOneTree }
+{
+    scripts_are_worlds();
+    one_tree::<Image>();
+}

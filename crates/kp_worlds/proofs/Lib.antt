@@ -5,3 +5,4 @@ mod Members
 mod Lines
 mod Plays
 mod Trees
+mod Ascending

@@ -1,6 +1,7 @@
 //! The laws of scripts. The contract of each function is a law; the function does nothing.
 
 ghost use Rattle.kp_worlds.specs.OneTree.{ScriptsAreOneTree};
+ghost use Rattle.kp_worlds.specs.Order.{MessagesAscend};
 ghost use Rattle.kp_worlds.specs.Standing.{LinesAreEvents, ScriptsAreWorlds};
 
 use kp_cluster::one_tree;
@@ -25,3 +26,9 @@ pub fn scripts_are_one_tree()
     scripts_are_worlds();
     one_tree::<Image>();
 }
+
+/// The messages of each step of each node are ascending by their receivers, so they are numbered and printed in this
+/// order.
+pub fn messages_ascend<I>()
+    ensures { MessagesAscend I }
+{}

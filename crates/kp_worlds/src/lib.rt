@@ -4,4 +4,4 @@
 
 mod laws;
 
-pub use laws::{scripts_are_one_tree, scripts_are_worlds};
+pub use laws::{messages_ascend, scripts_are_one_tree, scripts_are_worlds};

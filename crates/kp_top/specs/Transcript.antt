@@ -1,6 +1,5 @@
 -- What the lines of a store print.
 use Rattle.std.specs.Prelude.{ℕ, ◌+◌, ◌&&◌, nat_le, List, [], ◌∷◌, ◌++◌, Option, Some, None, if◌then◌else◌, refl}
-use Rattle.std.specs.Option.{option_map}
 use Rattle.std.specs.FinMap as map
 use Rattle.std.specs.Coded.{Coded, code_by, coded×, coded_ℕ}
 use Rattle.kp_model.specs.declared.session.Origin.{Origin}
@@ -8,7 +7,7 @@ use Rattle.kp_model.specs.declared.session.Session.{Session}
 use Rattle.kp_model.specs.declared.entry.Body.{Body}
 use Rattle.kp_model.specs.declared.entry.Body.TheVariants as body
 use Rattle.kp_model.specs.declared.command.Cmd.{Cmd}
-use Rattle.kp_model.specs.State.{Nodes, kids, seen, acl_at}
+use Rattle.kp_model.specs.State.{seen, acl_at}
 use Rattle.kp_model.specs.Store.{Store, empty, latest, last, with_entry, kept, truncated, commit_answer, commit_leaves}
 use Rattle.kp_model.specs.Codes.{store_code}
 use Rattle.kp_text.specs.declared.line.StoreLine.{StoreLine}
@@ -16,7 +15,8 @@ use Rattle.kp_text.specs.declared.line.StoreLine.TheVariants.{Time, Open, Attach
 use Rattle.kp_top.specs.InputLines.{lines_of}
 use Rattle.kp_top.specs.LineCommands.{cmd_of}
 use Rattle.kp_text.specs.Lines.{line_of}
-use Rattle.kp_top.specs.Texts.{seen_text, kids_text, acl_text, who_text, pre_text, done_text, time_text, cut_text}
+use Rattle.kp_look.specs.Texts.{seen_text, kids_text, acl_text, who_text, kids_at}
+use Rattle.kp_top.specs.Texts.{pre_text, done_text, time_text, cut_text}
 use lib.Chars.{codes}
 
 -- a store at work: what it holds, and the time that the next entries get
@@ -67,10 +67,6 @@ committed w = record {
   text = done_text (commit_answer w.store.state w.store.unapplied);
   work = record w { store = commit_leaves w.store.state w.store.unapplied };
 }
-
--- the names of the children of the node at a path, ascending, where there is one
-unfoldable pub kids_at : Nodes → List ℕ → Option (List (List ℕ))
-kids_at nodes path = option_map (λ _. kids nodes path) (map.get nodes path)
 
 -- a truncation, which is refused where the index isn't from the applied one to the last
 unfoldable pub cut : Work → ℕ → Turn

@@ -6,7 +6,6 @@ mod command;
 mod input_lines;
 mod line_commands;
 mod load;
-mod looking;
 mod print;
 mod status;
 mod store;

@@ -14,10 +14,10 @@ ghost use Rattle.kp_load.specs.Load.{after, is_load_line, IsLoadLine};
 ghost use Rattle.kp_text.specs.declared.line.StoreLine.TheVariants as line;
 
 use crate::line_commands::cmd_of;
-use crate::looking::{acl, children, peek, see, who};
-use crate::print::{cut_text, done_text, pre_text, text_of, time_text};
+use crate::print::{cut_text, done_text, pre_text, time_text};
 use crate::tally::Tally;
 use kp_load::LoadLines;
+use kp_look::{acl, children, peek, see, text_of, who};
 use kp_model::{Body, Cmd, Entry, NoMemory, Origin};
 use kp_storage::Storage;
 use kp_text::{Command, StoreLine};

@@ -1,10 +1,8 @@
-//! The lines that look at a storage and change nothing.
 ghost use Rattle.std.specs.Prelude.{◌≡◌, IfOk, codes};
 ghost use Rattle.std.specs.FinMap as map;
 ghost use Rattle.kp_model.specs.State.{seen, acl_at};
 ghost use Rattle.kp_model.specs.Store.{latest};
-ghost use Rattle.kp_top.specs.Texts.{seen_text as seen_bytes, kids_text as kids_bytes, acl_text as acl_bytes, who_text as who_bytes};
-ghost use Rattle.kp_top.specs.Transcript.{kids_at};
+ghost use Rattle.kp_look.specs.Texts.{seen_text as seen_bytes, kids_text as kids_bytes, acl_text as acl_bytes, who_text as who_bytes, kids_at};
 
 use crate::print::{acl_text, kids_text, no_kids_text, seen_text, who_text};
 use kp_model::{NoMemory, Text, View};

@@ -5,8 +5,7 @@ use Rattle.std.specs.Option.{option_map}
 use Rattle.std.specs.FinMap as map
 use Rattle.kp_model.specs.declared.node.Node.{Node}
 use Rattle.kp_model.specs.State.{Nodes, stat, kids, seen, meta_at, bytes_at}
-use Rattle.kp_top.specs.Texts.{shown}
-use Rattle.kp_top.specs.Transcript.{kids_at}
+use Rattle.kp_look.specs.Texts.{shown, kids_at}
 
 both_of : (nodes : Nodes) (path : List ℕ) (o : Option Node)
     → shown (option_map (λ (n : Node). n.bytes) o) (option_map (stat nodes path) o) ≡ option_map (λ n. record { bytes = n.bytes; meta = stat nodes path n }) o

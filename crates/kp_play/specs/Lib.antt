@@ -1,0 +1,5 @@
+pub mod Stage
+pub mod Texts
+pub mod Keeping
+pub mod Playing
+pub mod Worked

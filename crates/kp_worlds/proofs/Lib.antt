@@ -1,0 +1,8 @@
+mod Lists
+mod Effects
+mod Sequences
+mod Members
+mod Lines
+mod Plays
+mod Trees
+mod Ascending

@@ -1,11 +1,11 @@
 -- The records of several steps, one behind the other.
 use Rattle.std.proofs.Common.{◌≡◌, ℕ, zero, suc, ◌+◌, ◌<◌, Bool, true, false, Option, Some, None, List, [], ◌∷◌, ◌++◌, length, take, get_or, refl, ap, sym, ◌∙◌, arith, append-nil, append_assoc}
 use Rattle.std.proofs.lemmas.List.Folds.{list_any-append}
-use Rattle.std.specs.Prelude.{◌||◌, is_some}
+use Rattle.std.specs.Prelude.{◌||◌, ◌&&◌, is_some}
 use Rattle.kp_entry.specs.declared.record.Record.{Record}
 use Rattle.kp_entry.specs.Records.{is_base, has_base}
 use Rattle.kp_snapshot.specs.Snapshots.{Snapshot}
-use Rattle.kp_kept.specs.Ahead.{Waiting, all_records, waits_behind}
+use Rattle.kp_kept.specs.Ahead.{Waiting, all_records, all_want, has_some, waits_behind}
 
 no_left : (a b : Bool) → (a || b) ≡ false → a ≡ false
 no_left true b e = absurd (cc e)
@@ -77,3 +77,28 @@ empty_waits_of (Some i) old = refl
 
 pub empty_waits : (image : Option Snapshot) (old rs : List Record) → length rs ≡ 0 → ◌≡◌ {A = Waiting} (record { image = image; records = old }) (waits_behind (record { image = image; records = old }) rs None)
 empty_waits image old rs len = empty_waits_of image old ∙ ap (λ (xs : List Record). waits_behind (record { image = image; records = old }) xs None) (sym (no_records rs len))
+
+-- ---- each step wants something
+
+right_true : (a b : Bool) → (a && b) ≡ true → b ≡ true
+right_true true b e = e
+right_true false b e = absurd (cc e)
+
+left_true : (a b : Bool) → (a && b) ≡ true → a ≡ true
+left_true true b e = refl
+left_true false b e = absurd (cc e)
+
+both_true : (a b : Bool) → a ≡ true → b ≡ true → (a && b) ≡ true
+both_true true b e f = f
+both_true false b e f = absurd (cc e)
+
+one_more_wants : (rss : List (List Record)) (rs : List Record) → all_want rss ≡ true → has_some rs ≡ true → all_want (rss ++ rs ∷ []) ≡ true
+one_more_wants [] rs e f = both_true (has_some rs) true f refl
+one_more_wants (x ∷ rss) rs e f = both_true (has_some x) (all_want (rss ++ rs ∷ [])) (left_true (has_some x) (all_want rss) e) (one_more_wants rss rs (right_true (has_some x) (all_want rss) e) f)
+
+pub pushed_wants : (old new : List (List Record)) (rs : List Record) → all_want old ≡ true → has_some rs ≡ true → new ≡ old ++ rs ∷ [] → all_want new ≡ true
+pushed_wants old new rs e f is = ap all_want is ∙ one_more_wants old rs e f
+
+pub some_of : (rs : List Record) (len : ℕ) → len ≡ length rs → (len ≡ 0 → ⊥) → has_some rs ≡ true
+some_of [] len is some = absurd (some is)
+some_of (r ∷ rs) len is some = refl

@@ -11,3 +11,10 @@ pub mod Put
 pub mod Opened
 pub mod Thoughts
 pub mod Readiness
+pub mod Torn
+pub mod Void
+pub mod Tears
+pub mod TornHome
+pub mod TornKept
+pub mod Ends
+pub mod Places

@@ -22,7 +22,7 @@ use Rattle.kp_kept.proofs.Leads.{ShowsMade, Keeps, asked_keeps}
 use Rattle.kp_kept.proofs.Turned.{Turns, turned_so}
 use Rattle.kp_kept.proofs.Waits.{Leads, wants}
 
-shows : ShowsMade images
+pub shows : ShowsMade images
 shows = record { state = λ s t. refl; term = λ s t. refl }
 
 wanted_of : (image : Option Snapshot) (rs : List Record) (x y : Node) → y.held ≡ replay x.held rs → last_index y.held.log ≤ 2 ^ 62 → Keeps Snapshot images shows x rs image → wants image rs x y
@@ -32,7 +32,7 @@ wanted_of (Some i) rs x y held le b =
     record { index = sym (ap (λ (h : Held). h.log.base) held ∙ at.0); term = sym (ap (λ (h : Held). h.log.base_term) held ∙ at.1) }
 
 module _ (ch : Choices) (x y : Parts) (e : NodeEvent (Mail Snapshot)) (o : Outcome) (s : Steps (step words images ch (node_of x) e) x y o) where
-  kept : Keeps Snapshot images shows (node_of x) o.records o.image
+  pub kept : Keeps Snapshot images shows (node_of x) o.records o.image
   unfolding step together
   kept =
       subst (λ (image : Option Snapshot). Keeps Snapshot images shows (node_of x) o.records image) (sym s.is.image)

@@ -67,7 +67,7 @@ pub record Leads (rs : List Record) (image : Option Snapshot) (x y : Node) : Typ
   pub boot : y.boot ≡ x.boot
   pub wanted : wants image rs x y
 
-start_is : (rs : List Record) (x y : Node) → y.held ≡ replay x.held rs → y.boot ≡ x.boot → ((b : ℕ) → boot_after b rs ≡ b) → started (start_of x) rs ≡ start_of y
+pub start_is : (rs : List Record) (x y : Node) → y.held ≡ replay x.held rs → y.boot ≡ x.boot → ((b : ℕ) → boot_after b rs ≡ b) → started (start_of x) rs ≡ start_of y
 start_is rs x y held boot boots =
     ap (λ (b : ℕ). let s : Start = record { boot = b; held = replay x.held rs } in s) (boots x.boot ∙ sym boot)
     ∙ ap (λ (h : Held). let s : Start = record { boot = y.boot; held = h } in s) (sym held)

@@ -1,5 +1,5 @@
 -- A node ahead of its home: what waits to be kept, and how it leads from what the home would open with to what the node is.
-use Rattle.std.specs.Prelude.{◌≡◌, true, List, [], ◌∷◌, ◌++◌, Option, Some, None}
+use Rattle.std.specs.Prelude.{◌≡◌, Bool, true, false, ◌&&◌, List, [], ◌∷◌, ◌++◌, Option, Some, None}
 use Rattle.kp_entry.specs.declared.record.Record.{Record}
 use Rattle.kp_snapshot.specs.Snapshots.{Snapshot}
 use Rattle.kp_step.specs.Node.{Node}
@@ -9,6 +9,16 @@ use Rattle.kp_homes.specs.Opening.{Start, Found, are_fit, started}
 abbrev pub all_records : List (List Record) → List Record
 all_records [] = []
 all_records (rs ∷ rss) = rs ++ all_records rss
+
+-- whether there is a record
+abbrev pub has_some : List Record → Bool
+has_some [] = false
+has_some (r ∷ rs) = true
+
+-- whether each of these steps has a record
+abbrev pub all_want : List (List Record) → Bool
+all_want [] = true
+all_want (rs ∷ rss) = has_some rs && all_want rss
 
 -- what steps want kept: their records, or the image that stands for all that is wanted up to the last of them
 pub record Waiting : Type 0 where

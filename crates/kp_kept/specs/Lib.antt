@@ -1,8 +1,11 @@
 pub mod Ahead
 pub mod Ready
 pub mod Answers
+pub mod Lengths
 pub mod Finding
 pub mod Keeping
 pub mod Thinking
 pub mod Opening
 pub mod Flushing
+pub mod Events
+pub mod Tearing

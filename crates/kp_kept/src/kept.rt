@@ -1,8 +1,8 @@
 //! A node with its home.
 
-ghost use Rattle.std.specs.Prelude.{◌≡◌, None, false};
+ghost use Rattle.std.specs.Prelude.{◌≡◌, None, true, false};
 ghost use Rattle.kp_entry.specs.Records.{has_base};
-ghost use Rattle.kp_kept.specs.Ahead.{all_records};
+ghost use Rattle.kp_kept.specs.Ahead.{all_records, all_want};
 ghost use Rattle.kp_kept.specs.Ready.{MayTake};
 
 use kp_entry::Records;
@@ -30,4 +30,5 @@ pub struct Kept<H: Disk> {
     pub(crate) kept: u64,
     ghost ready: { death ≡ None → MayTake home.second (H.held home.disks.j0) (H.held home.disks.j1) home.journal.head.node home.journal.gate },
     ghost plain: { has_base (all_records waiting.items) ≡ false },
+    ghost wanted: { all_want waiting.items ≡ true },
 }

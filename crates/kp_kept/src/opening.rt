@@ -100,6 +100,7 @@ impl<H: Disk> Kept<H> {
             → LeftNow H.past disks c ⊎ IsBootedOrNot (found node b) (found node c) }
         ensures keeps { (b : Bytes4) → AreTold H.held H.past disks b → HasRoom (disks_of result).moments → IfOk result (λ k. (f : Found) × (found node b ≡ Ok f) × KeepsUp H.held H.past k (booted f)) }
         ensures waits { IfOk result (λ k. waiting_of k ≡ nothing_waits) }
+        ensures node { IfOk result (λ k. k.home.journal.head.node ≡ node) }
         ensures alive { IfOk result (λ k. k.death ≡ None) }
         ensures full { (slot len : ℕ) → fail_of result ≡ Some (home_fail.Full slot len) → 2 ^ 40 < len }
         ensures fault { fail_of result ≡ Some home_fail.DiskFault → Rose (home_faults H.faults disks) (home_faults H.faults (disks_of result)) }

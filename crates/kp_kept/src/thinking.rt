@@ -1,6 +1,6 @@
 //! Events are taken in memory.
 
-ghost use Rattle.std.specs.Prelude.{◌≡◌, ℕ, ◌+◌, ◌^◌, ◌<◌, ◌↔◌, None, Some, false, vec_len, IfOk, OnOk, OnErr, IsErrOf};
+ghost use Rattle.std.specs.Prelude.{◌≡◌, ℕ, ◌+◌, ◌^◌, ◌<◌, ◌≤◌, ◌↔◌, None, Some, true, false, vec_len, IfOk, OnOk, OnErr, IsErrOf};
 ghost use Rattle.std.specs.Vec.{vec_capacity};
 ghost use Rattle.kp_entry.specs.Records.{has_base};
 ghost use Rattle.kp_event.specs.Kinds.{row_of_kind, row_of_said};
@@ -9,7 +9,7 @@ ghost use Rattle.kp_event.specs.declared.fail.KeptFail.TheVariants as kept_fail;
 ghost use Rattle.kp_event.specs.declared.fail.Why.{Why};
 ghost use Rattle.kp_homes.specs.Opening.{Found};
 ghost use Rattle.kp_node.specs.declared.outcome.Outcome.{Outcome};
-ghost use Rattle.kp_kept.specs.Ahead.{waits_behind};
+ghost use Rattle.kp_kept.specs.Ahead.{has_some, waits_behind};
 ghost use Rattle.kp_kept.specs.Answers.{IsOfThink};
 ghost use Rattle.kp_kept.specs.Keeping.{KeepsUp, OnlyWaits, waiting_of};
 ghost use Rattle.kp_kept.specs.Thinking.{IsOf, Moves};
@@ -40,6 +40,7 @@ impl<H: Disk> Kept<H> {
         ensures death { self.new.death ≡ self.old.death }
         ensures kept { self.new.kept ≡ self.old.kept }
         ensures err { OnErr result ((self.new.node ≡ self.old.node) × (waiting_of self.new ≡ waiting_of self.old)) }
+        ensures few { vec_len self.new.waiting ≤ vec_len self.old.waiting + 1 }
         ensures dead { (why : Why) → IsErrOf result (kept_fail.Dead why) ↔ (self.old.death ≡ Some why) }
         ensures only { (f : KeptFail) → IsErrOf result f → IsOfThink f }
         ensures keeps { (f : Found) → KeepsUp H.held H.past self.old f → KeepsUp H.held H.past self.new f }
@@ -57,6 +58,7 @@ impl<H: Disk> Kept<H> {
     fn make_room(&mut self) -> Result<(), KeptFail>
         ensures same { OnlyWaits self.old self.new }
         ensures waits { waiting_of self.new ≡ waiting_of self.old }
+        ensures few { vec_len self.new.waiting ≡ vec_len self.old.waiting }
         ensures ok { OnOk result ((self.old.death ≡ None) × (vec_len self.new.waiting < vec_capacity self.new.waiting)) }
         ensures dead { (why : Why) → IsErrOf result (kept_fail.Dead why) ↔ (self.old.death ≡ Some why) }
         ensures only { (f : KeptFail) → IsErrOf result f → IsOfThink f }
@@ -82,6 +84,7 @@ impl<H: Disk> Kept<H> {
         ensures death { self.new.death ≡ self.old.death }
         ensures kept { self.new.kept ≡ self.old.kept }
         ensures err { OnErr result ((self.new.node ≡ self.old.node) × (waiting_of self.new ≡ waiting_of self.old)) }
+        ensures few { vec_len self.new.waiting ≤ vec_len self.old.waiting + 1 }
         ensures only { (f : KeptFail) → IsErrOf result f → f ≡ kept_fail.NoMemory }
         ensures keeps { (f : Found) → KeepsUp H.held H.past self.old f → KeepsUp H.held H.past self.new f }
     {
@@ -101,6 +104,7 @@ impl<H: Disk> Kept<H> {
         ensures thought { IsOf outcome self.old.node.events result }
         ensures same { OnlyWaits self.old self.new }
         ensures waits { waiting_of self.new ≡ waits_behind (waiting_of self.old) outcome.records outcome.image }
+        ensures few { vec_len self.new.waiting ≤ vec_len self.old.waiting + 1 }
     {
         let Outcome {
             said,
@@ -130,6 +134,7 @@ impl<H: Disk> Kept<H> {
         requires plain { image ≡ None → has_base records ≡ false }
         ensures same { OnlyWaits self.old self.new }
         ensures waits { waiting_of self.new ≡ waits_behind (waiting_of self.old) records image }
+        ensures few { vec_len self.new.waiting ≤ vec_len self.old.waiting + 1 }
     {
         match image {
             Some(image) => {
@@ -147,6 +152,7 @@ impl<H: Disk> Kept<H> {
         requires plain { has_base records ≡ false }
         ensures same { OnlyWaits self.old self.new }
         ensures waits { waiting_of self.new ≡ waits_behind (waiting_of self.old) records None }
+        ensures few { vec_len self.new.waiting ≤ vec_len self.old.waiting + 1 }
     {
         if records.len() == 0 {
             drop(records);
@@ -159,8 +165,10 @@ impl<H: Disk> Kept<H> {
     fn wait_records(&mut self, records: Records)
         requires room { vec_len self.old.waiting < vec_capacity self.old.waiting }
         requires plain { has_base records ≡ false }
+        requires some { has_some records ≡ true }
         ensures same { OnlyWaits self.old self.new }
         ensures waits { waiting_of self.new ≡ waits_behind (waiting_of self.old) records None }
+        ensures few { vec_len self.new.waiting ≤ vec_len self.old.waiting + 1 }
     {
         if self.image.is_some() {
             drop(records);

@@ -7,7 +7,7 @@ pub returns-clause-keeps : goal.returns-clause-keeps
 returns-clause-keeps g c = batch_had g.H.Disk.held g.H.Disk.past c.args.home.now c.append_batch.new.self c.args.records.now c.append_batch.result c.append_batch.ensures.keeps
 
 pub returns-clause-full : goal.returns-clause-full
-returns-clause-full g c = λ slot len e. let f = (c.append_batch.ensures.full slot len).0 e in (f.1, f.2)
+returns-clause-full g c = c.append_batch.ensures.full
 
 pub returns-clause-costs : goal.returns-clause-costs
 returns-clause-costs g c = costs_so (λ (h : Home g.row.H.Denot). home_faults g.H.Disk.faults h.disks) c.args.home.now c.append_batch.new.self c.append_batch.result c.append_batch.ensures.quiet c.append_batch.ensures.fault c.append_batch.ensures.full_same

@@ -1,4 +1,4 @@
-use Rattle.std.proofs.Common.{ℕ, ◌≤◌, ◌^◌, Option, length, ap, subst, sym, ◌∙◌, OnOk}
+use Rattle.std.proofs.Common.{ℕ, ◌≤◌, ◌^◌, Option, length, ap, subst, sym, ◌∙◌, inl, OnOk}
 use Rattle.std.specs.Prelude.{IsSome}
 use Rattle.kp_io.specs.Homes.{home_faults}
 use Rattle.kp_entry.specs.Records.{has_base}
@@ -35,7 +35,10 @@ returns-clause-keeps g c = λ rs.
 pub returns-clause-full : goal.returns-clause-full
 returns-clause-full g c = λ slot len e.
     let f = (c.compact-kept.ensures.full slot len).0 e in
-    (f.1 ∙ ap (λ (i : Option Snapshot). length (image_bytes i)) c.take.ensures.value, f.2)
+    (f.0, f.1 ∙ ap (λ (i : Option Snapshot). length (image_bytes i)) c.take.ensures.value, f.2)
+
+pub returns-clause-over : goal.returns-clause-over
+returns-clause-over g c = λ slot len b. inl ((c.compact-kept.ensures.full slot len).1 (b.0, b.1 ∙ sym (ap (λ (i : Option Snapshot). length (image_bytes i)) c.take.ensures.value), b.2))
 
 pub returns-clause-costs : goal.returns-clause-costs
 returns-clause-costs g c = costs_so (λ (h : Home g.row.H.Denot). home_faults g.H.Disk.faults h.disks) c.args.home.now c.compact-kept.new.self c.compact-kept.result c.compact-kept.ensures.quiet c.compact-kept.ensures.fault c.compact-kept.ensures.full_same

@@ -6,3 +6,4 @@ mod Lines
 mod Plays
 mod Trees
 mod Ascending
+mod Forwards

@@ -1,3 +1,4 @@
 pub mod Standing
 pub mod OneTree
 pub mod Order
+pub mod Forwards

@@ -1,6 +1,7 @@
 //! The laws of scripts. The contract of each function is a law; the function does nothing.
 
 ghost use Rattle.kp_worlds.specs.OneTree.{ScriptsAreOneTree};
+ghost use Rattle.kp_worlds.specs.Forwards.{ForwardsAreOfClients};
 ghost use Rattle.kp_worlds.specs.Order.{MessagesAscend};
 ghost use Rattle.kp_worlds.specs.Standing.{LinesAreEvents, ScriptsAreWorlds};
 
@@ -31,4 +32,10 @@ pub fn scripts_are_one_tree()
 /// order.
 pub fn messages_ascend<I>()
     ensures { MessagesAscend I }
+{}
+
+/// What a member sends on to its leader in any step is a client's: the opening or the taking over of a session, or a
+/// write.
+pub fn forwards_are_of_clients<I>()
+    ensures { ForwardsAreOfClients I }
 {}

@@ -4,4 +4,6 @@
 
 mod laws;
 
-pub use laws::{messages_ascend, scripts_are_one_tree, scripts_are_worlds};
+pub use laws::{
+    forwards_are_of_clients, messages_ascend, scripts_are_one_tree, scripts_are_worlds,
+};

@@ -8,6 +8,7 @@ use Rattle.kp_event.specs.declared.fail.KeptFail.{KeptFail}
 use Rattle.kp_event.specs.declared.fail.KeptFail.TheVariants as fail
 use Rattle.kp_event.specs.declared.fail.Why.{Why}
 use Rattle.kp_event.specs.declared.fail.Why.TheVariants as why
+use Rattle.kp_shared.specs.Letters.{Letter}
 use Rattle.kp_shared.specs.declared.kept.Life.{Life}
 use Rattle.kp_shared.specs.declared.task.Task.{Task}
 use Rattle.kp_shared.specs.declared.task.Task.TheVariants as task
@@ -22,12 +23,12 @@ IsWhole (Some (why.Disk n)) = ⊤
 IsWhole (Some (why.Full s n)) = ⊤
 IsWhole (Some why.Torn) = ⊥
 
-module _ {S K M : Type 0} (kept : S → K) (moves : K → NodeEvent M → Thought M → K → Type 0) (stays : K → K → Type 0) (life : K → Life) where
+module _ {S K M : Type 0} (kept : S → K) (moves : K → NodeEvent M → Thought (Letter M) → K → Type 0) (stays keeps : K → K → Type 0) (life : K → Life) where
   abbrev OneStep : S → Task M → Answered M → S → Type 0
-  OneStep x t a y = IsTaskStep moves stays life (kept x) t a (kept y)
+  OneStep x t a y = IsTaskStep moves stays keeps life (kept x) t a (kept y)
 
   -- one task keeps that
-  whole_step : (x : K) (t : Task M) (a : Answered M) (y : K) → IsTaskStep moves stays life x t a y → IsWhole (life x).death → IsWhole (life y).death
+  whole_step : (x : K) (t : Task M) (a : Answered M) (y : K) → IsTaskStep moves stays keeps life x t a y → IsWhole (life x).death → IsWhole (life y).death
   whole_step x (task.Think e) (Ok (answer.Thought t)) y s u = subst IsWhole (sym (ap (λ (l : Life). l.death) s.4)) u
   whole_step x (task.Think e) (Ok (answer.Kept n)) y s u = absurd s
   whole_step x (task.Think e) (Err fail.NoMemory) y s u = subst IsWhole (sym (ap (λ (l : Life). l.death) s.2)) u
@@ -35,7 +36,7 @@ module _ {S K M : Type 0} (kept : S → K) (moves : K → NodeEvent M → Though
   whole_step x (task.Think e) (Err fail.DiskFault) y s u = absurd s
   whole_step x (task.Think e) (Err (fail.Full k n)) y s u = absurd s
   whole_step x task.Flush (Ok (answer.Thought t)) y s u = absurd s
-  whole_step x task.Flush (Ok (answer.Kept n)) y s u = subst IsWhole (sym (ap (λ (l : Life). l.death) s.3)) u
+  whole_step x task.Flush (Ok (answer.Kept n)) y s u = subst IsWhole (sym (ap (λ (l : Life). l.death) s.4)) u
   whole_step x task.Flush (Err fail.NoMemory) y s u = subst IsWhole (sym (ap (λ (l : Life). l.death) s.2)) u
   whole_step x task.Flush (Err fail.DiskFault) y s u = subst IsWhole (sym (ap (λ (l : Life). l.death) s.3)) tt
   whole_step x task.Flush (Err (fail.Full k n)) y s u = subst IsWhole (sym (ap (λ (l : Life). l.death) s.2)) tt
@@ -47,7 +48,7 @@ module _ {S K M : Type 0} (kept : S → K) (moves : K → NodeEvent M → Though
   whole_runs x (t ∷ ts) r u = whole_runs t.2 ts r.1 (whole_step (kept x) t.0 t.1 (kept t.2) r.0 u)
 
   -- so a task is never refused for a torn event
-  fails_whole : (x : K) (t : Task M) (f : KeptFail) (y : K) → IsTaskStep moves stays life x t (Err f) y → IsWhole (life x).death → IsUntorn f
+  fails_whole : (x : K) (t : Task M) (f : KeptFail) (y : K) → IsTaskStep moves stays keeps life x t (Err f) y → IsWhole (life x).death → IsUntorn f
   fails_whole x t fail.NoMemory y s u = tt
   fails_whole x t fail.DiskFault y s u = tt
   fails_whole x t (fail.Full k n) y s u = tt

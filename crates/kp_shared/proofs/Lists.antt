@@ -6,6 +6,7 @@ use mathlib.Core.Option.{some}
 use mathlib.Core.Option as maybe
 use Rattle.kp_turn.specs.TurnView.{own}
 use Rattle.kp_event.specs.declared.thought.Thought.{Thought}
+use Rattle.kp_shared.specs.Letters.{Letter}
 use Rattle.kp_shared.specs.declared.task.Answer.TheVariants as answer
 use Rattle.kp_shared.specs.Tasks.{Did, Each, bytes_of, flushed, leaves_at, mails_of, out_of, thoughts_in, waiting, waits_after}
 use Rattle.kp_shared.specs.Nodes.{Does, ViewIn}
@@ -19,32 +20,32 @@ each_both P [] ys a b = b
 each_both P (x ∷ xs) ys a b = (a.0, each_both P xs ys a.1 b)
 
 module _ {M : Type 0} where
-  pub flushed_both : (p : List (Thought M)) (xs ys : List (Did M)) → flushed p (xs ++ ys) ≡ flushed p xs ++ flushed (waiting p xs) ys
+  pub flushed_both : (p : List (Thought (Letter M))) (xs ys : List (Did M)) → flushed p (xs ++ ys) ≡ flushed p xs ++ flushed (waiting p xs) ys
   flushed_both p [] ys = refl
-  flushed_both p (d ∷ ds) ys = ap (λ (l : List (Thought M)). leaves_at p d.1 ++ l) (flushed_both (waits_after p d.1) ds ys)
+  flushed_both p (d ∷ ds) ys = ap (λ (l : List (Thought (Letter M))). leaves_at p d.1 ++ l) (flushed_both (waits_after p d.1) ds ys)
       ∙ sym (append_assoc (leaves_at p d.1) (flushed (waits_after p d.1) ds) (flushed (waiting (waits_after p d.1) ds) ys))
 
-  pub waiting_both : (p : List (Thought M)) (xs ys : List (Did M)) → waiting p (xs ++ ys) ≡ waiting (waiting p xs) ys
+  pub waiting_both : (p : List (Thought (Letter M))) (xs ys : List (Did M)) → waiting p (xs ++ ys) ≡ waiting (waiting p xs) ys
   waiting_both p [] ys = refl
   waiting_both p (d ∷ ds) ys = waiting_both (waits_after p d.1) ds ys
 
   -- where nothing waits after the first
   pub flushed_after : (xs ys : List (Did M)) → waiting [] xs ≡ [] → flushed [] (xs ++ ys) ≡ flushed [] xs ++ flushed [] ys
-  flushed_after xs ys e = flushed_both [] xs ys ∙ ap (λ (l : List (Thought M)). flushed [] xs ++ flushed l ys) e
+  flushed_after xs ys e = flushed_both [] xs ys ∙ ap (λ (l : List (Thought (Letter M))). flushed [] xs ++ flushed l ys) e
 
   pub thoughts_both : (xs ys : List (Did M)) → thoughts_in (xs ++ ys) ≡ thoughts_in xs ++ thoughts_in ys
   thoughts_both [] ys = refl
-  thoughts_both ((t, Ok (answer.Thought u)) ∷ ds) ys = ap (λ (l : List (Thought M)). u ∷ l) (thoughts_both ds ys)
+  thoughts_both ((t, Ok (answer.Thought u)) ∷ ds) ys = ap (λ (l : List (Thought (Letter M))). u ∷ l) (thoughts_both ds ys)
   thoughts_both ((t, Ok (answer.Kept n)) ∷ ds) ys = thoughts_both ds ys
   thoughts_both ((t, Err f) ∷ ds) ys = thoughts_both ds ys
 
-  pub bytes_both : (ts us : List (Thought M)) → bytes_of (ts ++ us) ≡ bytes_of ts ++ bytes_of us
+  pub bytes_both : (ts us : List (Thought (Letter M))) → bytes_of (ts ++ us) ≡ bytes_of ts ++ bytes_of us
   bytes_both [] us = refl
   bytes_both (t ∷ ts) us = ap (λ (l : List ℕ). out_of t.said ++ l) (bytes_both ts us) ∙ sym (append_assoc (out_of t.said) (bytes_of ts) (bytes_of us))
 
-  pub mails_both : (ts us : List (Thought M)) → mails_of (ts ++ us) ≡ mails_of ts ++ mails_of us
+  pub mails_both : (ts us : List (Thought (Letter M))) → mails_of (ts ++ us) ≡ mails_of ts ++ mails_of us
   mails_both [] us = refl
-  mails_both (t ∷ ts) us = ap (λ (l : List M). t.mail ++ l) (mails_both ts us) ∙ sym (append_assoc t.mail (mails_of ts) (mails_of us))
+  mails_both (t ∷ ts) us = ap (λ (l : List (Letter M)). t.mail ++ l) (mails_both ts us) ∙ sym (append_assoc t.mail (mails_of ts) (mails_of us))
 
 module _ {S M : Type 0} where
   pub does_none : (v : ViewIn S M) → Does v v []

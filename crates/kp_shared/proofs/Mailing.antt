@@ -1,6 +1,7 @@
 -- What is sent on links, one call after another.
 use Rattle.std.proofs.Common.{◌≡◌, inl, inr, ℕ, ◌≤◌, ◌^◌, List, [], ◌∷◌, ◌++◌, sym, refl, ap, ◌∙◌, subst, ⊎_elim, arith, append_assoc, length-append}
-use Rattle.std.specs.Prelude.{Option, Some, None, Result, Ok, Err, MatchResult}
+use Rattle.std.specs.Prelude.{◌==◌, filter, map, Option, Some, None, Result, Ok, Err, MatchResult}
+use Rattle.std.proofs.lemmas.List.{map-append}
 use Rattle.std.proofs.lemmas.List.Elements.{filter-append}
 use Rattle.crossbeam_queue.specs.Fifo.{Held}
 use Rattle.kp_links.specs.declared.link.LinkSeat.{LinkSeat}
@@ -8,6 +9,7 @@ use Rattle.kp_links.specs.declared.view.LinkView.{LinkView}
 use Rattle.kp_links.specs.LinkView.{Allowing, Sends}
 use Rattle.kp_links.specs.LinkSeats.{link_view, refused_after, refused_of}
 use Rattle.kp_shared.specs.declared.peers.Peers.{Peers}
+use Rattle.kp_shared.specs.Letters.{Letter}
 use Rattle.kp_shared.specs.Posts.{IsSome-of, Posts, Sent, SentTo, to_peer}
 use Rattle.kp_shared.proofs.Lists.{append_nil}
 
@@ -71,18 +73,22 @@ module _ {M : Type 0} where
     lost = λ small. omega arith;
   }
 
-module _ {M : Type 0} (receiver : M → ℕ) where
-  pub posts_none : (a : Peers (LinkSeat M)) → Posts receiver [] a a
+module _ {M : Type 0} where
+  pub posts_none : (a : Peers (LinkSeat M)) → Posts [] a a
   posts_none a = record { one = to_none a.one; two = to_none a.two; three = to_none a.three; four = to_none a.four; five = to_none a.five; six = to_none a.six; seven = to_none a.seven }
 
-  pub posts_more : (xs ys : List M) (a b c : Peers (LinkSeat M)) → Posts receiver xs a b → Posts receiver ys b c → Posts receiver (xs ++ ys) a c
+  peer_both : (p : ℕ) (xs ys : List (Letter M)) → to_peer p (xs ++ ys) ≡ to_peer p xs ++ to_peer p ys
+  peer_both p xs ys = ap (λ (l : List (Letter M)). map (λ (x : Letter M). x.1) l) (filter-append (λ (x : Letter M). x.0 == p) xs ys)
+      ∙ map-append (λ (x : Letter M). x.1) (filter (λ (x : Letter M). x.0 == p) xs) (filter (λ (x : Letter M). x.0 == p) ys)
+
+  pub posts_more : (xs ys : List (Letter M)) (a b c : Peers (LinkSeat M)) → Posts xs a b → Posts ys b c → Posts (xs ++ ys) a c
   posts_more xs ys a b c s t =
-      let parts : (p : ℕ) → to_peer receiver p xs ++ to_peer receiver p ys ≡ to_peer receiver p (xs ++ ys) = λ p. sym (filter-append _ xs ys) in record {
-        one = subst (λ (l : List M). SentTo l a.one c.one) (parts 1) (to_more (to_peer receiver 1 xs) (to_peer receiver 1 ys) a.one b.one c.one s.one t.one);
-        two = subst (λ (l : List M). SentTo l a.two c.two) (parts 2) (to_more (to_peer receiver 2 xs) (to_peer receiver 2 ys) a.two b.two c.two s.two t.two);
-        three = subst (λ (l : List M). SentTo l a.three c.three) (parts 3) (to_more (to_peer receiver 3 xs) (to_peer receiver 3 ys) a.three b.three c.three s.three t.three);
-        four = subst (λ (l : List M). SentTo l a.four c.four) (parts 4) (to_more (to_peer receiver 4 xs) (to_peer receiver 4 ys) a.four b.four c.four s.four t.four);
-        five = subst (λ (l : List M). SentTo l a.five c.five) (parts 5) (to_more (to_peer receiver 5 xs) (to_peer receiver 5 ys) a.five b.five c.five s.five t.five);
-        six = subst (λ (l : List M). SentTo l a.six c.six) (parts 6) (to_more (to_peer receiver 6 xs) (to_peer receiver 6 ys) a.six b.six c.six s.six t.six);
-        seven = subst (λ (l : List M). SentTo l a.seven c.seven) (parts 7) (to_more (to_peer receiver 7 xs) (to_peer receiver 7 ys) a.seven b.seven c.seven s.seven t.seven);
+      let parts : (p : ℕ) → to_peer p xs ++ to_peer p ys ≡ to_peer p (xs ++ ys) = λ p. sym (peer_both p xs ys) in record {
+        one = subst (λ (l : List M). SentTo l a.one c.one) (parts 1) (to_more (to_peer 1 xs) (to_peer 1 ys) a.one b.one c.one s.one t.one);
+        two = subst (λ (l : List M). SentTo l a.two c.two) (parts 2) (to_more (to_peer 2 xs) (to_peer 2 ys) a.two b.two c.two s.two t.two);
+        three = subst (λ (l : List M). SentTo l a.three c.three) (parts 3) (to_more (to_peer 3 xs) (to_peer 3 ys) a.three b.three c.three s.three t.three);
+        four = subst (λ (l : List M). SentTo l a.four c.four) (parts 4) (to_more (to_peer 4 xs) (to_peer 4 ys) a.four b.four c.four s.four t.four);
+        five = subst (λ (l : List M). SentTo l a.five c.five) (parts 5) (to_more (to_peer 5 xs) (to_peer 5 ys) a.five b.five c.five s.five t.five);
+        six = subst (λ (l : List M). SentTo l a.six c.six) (parts 6) (to_more (to_peer 6 xs) (to_peer 6 ys) a.six b.six c.six s.six t.six);
+        seven = subst (λ (l : List M). SentTo l a.seven c.seven) (parts 7) (to_more (to_peer 7 xs) (to_peer 7 ys) a.seven b.seven c.seven s.seven t.seven);
       }

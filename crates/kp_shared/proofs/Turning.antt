@@ -5,6 +5,7 @@ use Rattle.kp_event.specs.declared.event.NodeEventKind.{NodeEventKind}
 use Rattle.kp_event.specs.declared.thought.Thought.{Thought}
 use Rattle.kp_event.specs.declared.fail.KeptFail.{KeptFail}
 use Rattle.kp_event.specs.Kinds.{row_of_kind, row_of_said}
+use Rattle.kp_shared.specs.Letters.{Letter}
 use Rattle.kp_shared.specs.declared.plan.Step.{Step}
 use Rattle.kp_shared.specs.declared.refusal.Refusal.{Refusal}
 use Rattle.kp_shared.specs.declared.task.Task.{Task}
@@ -25,13 +26,13 @@ module _ {S M : Type 0} (may : ℕ → Type 0) where
     times = each_both (InTime may) ds es a.times b.times;
     went = each_both Went ds es a.went b.went;
     fits = each_both Fitting ds es a.fits b.fits;
-    held = λ p. waiting_both p ds es ∙ ap (λ (l : List (Thought M)). waiting l es) (a.held p) ∙ b.held (p ++ thoughts_in ds)
-        ∙ append_assoc p (thoughts_in ds) (thoughts_in es) ∙ ap (λ (l : List (Thought M)). p ++ l) (sym (thoughts_both ds es));
-    still = λ p. flushed_both p ds es ∙ ap (λ (l : List (Thought M)). l ++ flushed (waiting p ds) es) (a.still p) ∙ b.still (waiting p ds);
+    held = λ p. waiting_both p ds es ∙ ap (λ (l : List (Thought (Letter M))). waiting l es) (a.held p) ∙ b.held (p ++ thoughts_in ds)
+        ∙ append_assoc p (thoughts_in ds) (thoughts_in es) ∙ ap (λ (l : List (Thought (Letter M))). p ++ l) (sym (thoughts_both ds es));
+    still = λ p. flushed_both p ds es ∙ ap (λ (l : List (Thought (Letter M))). l ++ flushed (waiting p ds) es) (a.still p) ∙ b.still (waiting p ds);
   }
 
   -- one event was thought
-  pub opens_one : (v w : ViewIn S M) (k : NodeEventKind M) (t : Thought M) (now : ℕ) → may now → row_of_said t.said ≡ row_of_kind k
+  pub opens_one : (v w : ViewIn S M) (k : NodeEventKind M) (t : Thought (Letter M)) (now : ℕ) → may now → row_of_said t.said ≡ row_of_kind k
       → Does v w ((task.Think record { now = now; kind = k }, Ok (answer.Thought t)) ∷ []) → Opens may v w ((task.Think record { now = now; kind = k }, Ok (answer.Thought t)) ∷ [])
   opens_one v w k t now ok fits d = record { does = d; times = (ok, tt); went = (tt, tt); fits = (fits, tt); held = λ p. refl; still = λ p. refl }
 
@@ -46,7 +47,7 @@ module _ {S M : Type 0} (may : ℕ → Type 0) where
   breaks_behind u v w ds es r a b = record {
     does = does_both u v w ds es a.does b.does;
     times = each_both (InTime may) ds es a.times b.times;
-    stays = λ p. flushed_both p ds es ∙ ap (λ (l : List (Thought M)). l ++ flushed (waiting p ds) es) (a.still p) ∙ b.stays (waiting p ds);
+    stays = λ p. flushed_both p ds es ∙ ap (λ (l : List (Thought (Letter M))). l ++ flushed (waiting p ds) es) (a.still p) ∙ b.stays (waiting p ds);
     cause = causes_behind r w ds es a.went b.cause;
   }
 

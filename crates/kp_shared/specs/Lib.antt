@@ -1,3 +1,4 @@
+pub mod Letters
 pub mod TaskSteps
 pub mod Tasks
 pub mod Plans

@@ -13,6 +13,7 @@ use Rattle.kp_event.specs.declared.thought.Thought.{Thought}
 use Rattle.kp_event.specs.declared.fail.KeptFail.{KeptFail}
 use Rattle.kp_event.specs.declared.fail.KeptFail.TheVariants as fail
 use Rattle.kp_event.specs.Kinds.{row_of_kind, row_of_said}
+use Rattle.kp_shared.specs.Letters.{Letter}
 use Rattle.kp_shared.specs.declared.kept.Life.{Life}
 use Rattle.kp_shared.specs.declared.plan.Step.{Step}
 use Rattle.kp_shared.specs.declared.task.Task.{Task}
@@ -51,12 +52,12 @@ module _ {S M : Type 0} where
       ⊎ (((r ≡ refusal.Worn) × IsFull w × Does v w []) ⊎ ((r ≡ refusal.Failed fail.NoMemory) × Does v w []))
 
   -- an event of this kind was thought, or refused
-  abbrev pub ThinkTells : (ℕ → Type 0) → NodeEventKind M → Result (Thought M) Refusal → TurnSeatIn S M → TurnSeatIn S M → Type 0
+  abbrev pub ThinkTells : (ℕ → Type 0) → NodeEventKind M → Result (Thought (Letter M)) Refusal → TurnSeatIn S M → TurnSeatIn S M → Type 0
   ThinkTells may k (Ok t) s s' = (now : ℕ) × may now × (row_of_said t.said ≡ row_of_kind k) × Does (view s) (view s') ((task.Think record { now = now; kind = k }, Ok (answer.Thought t)) ∷ [])
   ThinkTells may k (Err r) s s' = Refuses may (λ now. task.Think record { now = now; kind = k }) r (view s) (view s')
 
   -- the same, where memory can run out in the node alone
-  abbrev pub ThinkAsks : (ℕ → Type 0) → NodeEventKind M → Result (Thought M) Refusal → TurnSeatIn S M → TurnSeatIn S M → Type 0
+  abbrev pub ThinkAsks : (ℕ → Type 0) → NodeEventKind M → Result (Thought (Letter M)) Refusal → TurnSeatIn S M → TurnSeatIn S M → Type 0
   ThinkAsks may k (Ok t) s s' = ThinkTells may k (Ok t) s s'
   ThinkAsks may k (Err r) s s' = ((now : ℕ) × (f : KeptFail) × may now × (r ≡ refusal.Failed f) × IsUntorn f × Does (view s) (view s') ((task.Think record { now = now; kind = k }, Err f) ∷ []))
       ⊎ ((r ≡ refusal.Worn) × IsFull (view s') × Does (view s) (view s') [])
@@ -78,18 +79,18 @@ module _ {S M : Type 0} where
       pub times : Each (InTime may) ds
       pub went : Each Went ds
       pub fits : Each Fitting ds
-      pub held : (p : List (Thought M)) → waiting p ds ≡ p ++ thoughts_in ds
-      pub still : (p : List (Thought M)) → flushed p ds ≡ []
+      pub held : (p : List (Thought (Letter M))) → waiting p ds ≡ p ++ thoughts_in ds
+      pub still : (p : List (Thought (Letter M))) → flushed p ds ≡ []
 
     -- these tasks were done up to one that was refused or not taken, and nothing of them may leave
     pub record Breaks (r : Refusal) (ds : List (Did M)) : Type 0 where
       pub does : Does v w ds
       pub times : Each (InTime may) ds
-      pub stays : (p : List (Thought M)) → flushed p ds ≡ []
+      pub stays : (p : List (Thought (Letter M))) → flushed p ds ≡ []
       pub cause : Causes r w ds
 
     -- whole turns were made, none of whose tasks was refused, and these thoughts may leave
-    pub record Whole (ts : List (Thought M)) (ds : List (Did M)) : Type 0 where
+    pub record Whole (ts : List (Thought (Letter M))) (ds : List (Did M)) : Type 0 where
       pub does : Does v w ds
       pub times : Each (InTime may) ds
       pub went : Each Went ds
@@ -97,7 +98,7 @@ module _ {S M : Type 0} where
       pub settled : waiting [] ds ≡ []
 
     -- one whole turn of these steps
-    abbrev pub TurnWhole : List (Step M) → List (Thought M) → List (Did M) → Type 0
+    abbrev pub TurnWhole : List (Step M) → List (Thought (Letter M)) → List (Did M) → Type 0
     TurnWhole ps ts ds = IsTurn ps ds × Whole ts ds
 
     -- a turn of these steps that was cut

@@ -1,9 +1,10 @@
 -- What was sent on the links of a node (this project's own).
-use Rattle.std.specs.Prelude.{◌≡◌, ◌⊎◌, ◌+◌, ◌<◌, ◌≤◌, ◌^◌, ◌==◌, ℕ, List, [], ◌∷◌, ◌++◌, length, filter, Option, Some, None, ⊤}
+use Rattle.std.specs.Prelude.{◌≡◌, ◌⊎◌, ◌+◌, ◌<◌, ◌≤◌, ◌^◌, ◌==◌, ℕ, List, [], ◌∷◌, ◌++◌, length, filter, map, Option, Some, None, ⊤}
 use Rattle.kp_links.specs.declared.link.Links.{Links}
 use Rattle.kp_links.specs.declared.link.LinkSeat.{LinkSeat}
 use Rattle.kp_links.specs.LinkSeats.{IsLinkSeatOf, link_view, refused_of}
 use Rattle.kp_shared.specs.declared.peers.Peers.{Peers}
+use Rattle.kp_shared.specs.Letters.{Letter}
 
 -- the first list is the second with some left out
 abbrev pub IsSome-of : {B : Type 0} → List B → List B → Type 0
@@ -45,13 +46,12 @@ module _ {M : Type 0} where
     pub six : HasSeat links.six seats.six
     pub seven : HasSeat links.seven seats.seven
 
-module _ {M : Type 0} (receiver : M → ℕ) where
   -- the messages for one node
-  abbrev pub to_peer : ℕ → List M → List M
-  to_peer p mails = filter (λ m. receiver m == p) mails
+  abbrev pub to_peer : ℕ → List (Letter M) → List M
+  to_peer p mails = map (λ x. x.1) (filter (λ x. x.0 == p) mails)
 
   -- of these messages each was sent on the link to its receiver
-  pub record Posts (mails : List M) (a b : Peers (LinkSeat M)) : Type 0 where
+  pub record Posts (mails : List (Letter M)) (a b : Peers (LinkSeat M)) : Type 0 where
     pub one : SentTo (to_peer 1 mails) a.one b.one
     pub two : SentTo (to_peer 2 mails) a.two b.two
     pub three : SentTo (to_peer 3 mails) a.three b.three

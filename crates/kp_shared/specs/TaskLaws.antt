@@ -9,6 +9,7 @@ use Rattle.kp_shared.specs.declared.task.Answer.TheVariants as answer
 use Rattle.kp_event.specs.declared.fail.KeptFail.TheVariants as fail
 use Rattle.kp_event.specs.declared.fail.Why.{Why}
 use Rattle.kp_event.specs.declared.fail.Why.TheVariants as why
+use Rattle.kp_shared.specs.Letters.{Letter}
 use Rattle.kp_shared.specs.TaskSteps.{Answered, IsTaskStep}
 
 -- a dead node answers Dead with the cause of its death, and no other node answers Dead
@@ -52,7 +53,7 @@ abbrev pub KeepsAll : {K M : Type 0} → ℕ → List (Task M × Answered M × K
 KeepsAll m [] = ⊤
 KeepsAll m (p ∷ ps) = Keeps m p.1 × KeepsAll (last_thought m p.1) ps
 
-module _ {K M : Type 0} (moves : K → NodeEvent M → Thought M → K → Type 0) (stays : K → K → Type 0) (life : K → Life) where
+module _ {K M : Type 0} (moves : K → NodeEvent M → Thought (Letter M) → K → Type 0) (stays keeps : K → K → Type 0) (life : K → Life) where
   -- it holds of every history of a node's tasks, from any node on
   abbrev pub Histories : (K → List (Task M × Answered M × K) → Type 0) → Type 0
-  Histories P = (x : K) (ts : List (Task M × Answered M × K)) → Runs (IsTaskStep moves stays life) x ts → P x ts
+  Histories P = (x : K) (ts : List (Task M × Answered M × K)) → Runs (IsTaskStep moves stays keeps life) x ts → P x ts

@@ -6,6 +6,7 @@ use Rattle.kp_event.specs.declared.said.Said.{Said}
 use Rattle.kp_event.specs.declared.said.Said.TheVariants as said
 use Rattle.kp_event.specs.declared.said.FedWord.TheVariants as word
 use Rattle.kp_event.specs.Kinds.{row_of_kind, row_of_said}
+use Rattle.kp_shared.specs.Letters.{Letter}
 use Rattle.kp_shared.specs.declared.task.Task.{Task}
 use Rattle.kp_shared.specs.declared.task.Task.TheVariants as task
 use Rattle.kp_shared.specs.declared.task.Answer.TheVariants as answer
@@ -66,36 +67,36 @@ finds_none (t, Ok (answer.Kept n)) = false
 finds_none (t, Err f) = false
 
 -- the thoughts among the answers
-abbrev pub thoughts_in : {M : Type 0} → List (Did M) → List (Thought M)
+abbrev pub thoughts_in : {M : Type 0} → List (Did M) → List (Thought (Letter M))
 thoughts_in [] = []
 thoughts_in ((t, Ok (answer.Thought u)) ∷ ds) = u ∷ thoughts_in ds
 thoughts_in ((t, Ok (answer.Kept n)) ∷ ds) = thoughts_in ds
 thoughts_in ((t, Err f) ∷ ds) = thoughts_in ds
 
 -- the thoughts that wait for a flush, after one more answer
-abbrev pub waits_after : {M : Type 0} → List (Thought M) → Answered M → List (Thought M)
+abbrev pub waits_after : {M : Type 0} → List (Thought (Letter M)) → Answered M → List (Thought (Letter M))
 waits_after p (Ok (answer.Thought t)) = p ++ t ∷ []
 waits_after p (Ok (answer.Kept n)) = []
 waits_after p (Err f) = []
 
 -- the thoughts that one answer lets leave
-abbrev pub leaves_at : {M : Type 0} → List (Thought M) → Answered M → List (Thought M)
+abbrev pub leaves_at : {M : Type 0} → List (Thought (Letter M)) → Answered M → List (Thought (Letter M))
 leaves_at p (Ok (answer.Thought t)) = []
 leaves_at p (Ok (answer.Kept n)) = p
 leaves_at p (Err f) = []
 
 -- the thoughts that still wait, where some waited before
-abbrev pub waiting : {M : Type 0} → List (Thought M) → List (Did M) → List (Thought M)
+abbrev pub waiting : {M : Type 0} → List (Thought (Letter M)) → List (Did M) → List (Thought (Letter M))
 waiting p [] = p
 waiting p (d ∷ ds) = waiting (waits_after p d.1) ds
 
 -- the thoughts whose next flush was Ok, where some waited before: these may leave
-abbrev pub flushed : {M : Type 0} → List (Thought M) → List (Did M) → List (Thought M)
+abbrev pub flushed : {M : Type 0} → List (Thought (Letter M)) → List (Did M) → List (Thought (Letter M))
 flushed p [] = []
 flushed p (d ∷ ds) = leaves_at p d.1 ++ flushed (waits_after p d.1) ds
 
 -- the messages of all of them
-abbrev pub mails_of : {M : Type 0} → List (Thought M) → List M
+abbrev pub mails_of : {M : Type 0} → List (Thought (Letter M)) → List (Letter M)
 mails_of [] = []
 mails_of (t ∷ ts) = t.mail ++ mails_of ts
 
@@ -113,7 +114,7 @@ out_of (said.Expired n) = []
 out_of (said.Snapped n) = []
 
 -- what all of them drained, joined
-abbrev pub bytes_of : {M : Type 0} → List (Thought M) → List ℕ
+abbrev pub bytes_of : {M : Type 0} → List (Thought (Letter M)) → List ℕ
 bytes_of [] = []
 bytes_of (t ∷ ts) = out_of t.said ++ bytes_of ts
 

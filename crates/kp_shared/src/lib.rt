@@ -1,7 +1,6 @@
 //! A node with its home that threads share.
 #![tactic(auto)]
 
-mod carried;
 mod kept;
 mod node;
 mod peer_links;
@@ -16,7 +15,6 @@ mod thinking;
 mod told;
 mod turns;
 
-pub use carried::Carried;
 pub use kept::{Kept, Life, Served, dies_once, keeps_all};
 pub use node::{NodeOf, NodeSeat, NodeSeatOf, SharedNode};
 pub use peers::Peers;

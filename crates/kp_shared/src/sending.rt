@@ -3,7 +3,6 @@ ghost use Rattle.std.specs.Prelude.{◌≡◌, [], ◌∷◌};
 ghost use Rattle.kp_shared.specs.Posts.{HasSeat, HasSeats, Posts, SentTo};
 ghost use Rattle.kp_shared.specs.Tasks.{mails_of};
 
-use crate::carried::Carried;
 use crate::peers::Peers;
 use kp_event::{Said, Thought};
 use kp_links::{LinkSeat, Links};
@@ -11,7 +10,7 @@ use kp_model::Items;
 use std::sync::Wait;
 
 // Sends a message where there is a link. Where the link is full the message is lost.
-fn send_to<R: Wait, M: Carried>(
+fn send_to<R: Wait, M: Drop>(
     rt: &R,
     link: &Option<Links<M>>,
     seat: &mut Option<LinkSeat<M>>,
@@ -31,17 +30,18 @@ fn send_to<R: Wait, M: Carried>(
 }
 
 // Sends a message on the link to its receiver.
-fn send_one<R: Wait, M: Carried>(
+fn send_one<R: Wait, M: Drop>(
     rt: &R,
     links: &Peers<Links<M>>,
     seats: &mut Peers<LinkSeat<M>>,
+    to: u8,
     mail: M,
 )
     requires seats { HasSeats links.now seats.old }
     ensures seats { HasSeats links.now seats.new }
-    ensures posts { Posts M.receiver (mail ∷ []) seats.old seats.new }
+    ensures posts { Posts ((to, mail) ∷ []) seats.old seats.new }
 {
-    match mail.to() {
+    match to {
         1 => send_to(rt, &links.one, &mut seats.one, mail),
         2 => send_to(rt, &links.two, &mut seats.two, mail),
         3 => send_to(rt, &links.three, &mut seats.three, mail),
@@ -54,31 +54,32 @@ fn send_one<R: Wait, M: Carried>(
 }
 
 // Sends messages, each on the link to its receiver.
-fn send_mails<R: Wait, M: Carried>(
+fn send_mails<R: Wait, M: Drop>(
     rt: &R,
     links: &Peers<Links<M>>,
     seats: &mut Peers<LinkSeat<M>>,
-    mails: Items<M>,
+    mails: Items<(u8, M)>,
 )
     requires seats { HasSeats links.now seats.old }
     ensures seats { HasSeats links.now seats.new }
-    ensures posts { Posts M.receiver mails seats.old seats.new }
+    ensures posts { Posts mails seats.old seats.new }
 {
-    for mail in mails.into_vec() {
-        send_one(rt, links, seats, mail);
+    for letter in mails.into_vec() {
+        let (to, mail) = letter;
+        send_one(rt, links, seats, to, mail);
     }
 }
 
 /// Sends the messages of a thought, each on the link to its receiver. The answer is what the thought said.
-pub fn post_thought<R: Wait, M: Carried>(
+pub fn post_thought<R: Wait, M: Drop>(
     rt: &R,
     links: &Peers<Links<M>>,
     seats: &mut Peers<LinkSeat<M>>,
-    thought: Thought<M>,
+    thought: Thought<(u8, M)>,
 ) -> Said
     requires seats { HasSeats links.now seats.old }
     ensures seats { HasSeats links.now seats.new }
-    ensures posts { Posts M.receiver thought.mail seats.old seats.new }
+    ensures posts { Posts thought.mail seats.old seats.new }
     ensures said { result ≡ thought.said }
 {
     let Thought { said, mail, .. } = thought;
@@ -87,15 +88,15 @@ pub fn post_thought<R: Wait, M: Carried>(
 }
 
 /// Sends the messages of thoughts, each on the link to its receiver.
-pub fn post_all<R: Wait, M: Carried>(
+pub fn post_all<R: Wait, M: Drop>(
     rt: &R,
     links: &Peers<Links<M>>,
     seats: &mut Peers<LinkSeat<M>>,
-    thoughts: Vec<Thought<M>>,
+    thoughts: Vec<Thought<(u8, M)>>,
 )
     requires seats { HasSeats links.now seats.old }
     ensures seats { HasSeats links.now seats.new }
-    ensures posts { Posts M.receiver (mails_of thoughts.items) seats.old seats.new }
+    ensures posts { Posts (mails_of thoughts.items) seats.old seats.new }
 {
     for thought in thoughts {
         drop(post_thought(rt, links, seats, thought));

@@ -10,7 +10,6 @@ ghost use Rattle.kp_shared.specs.Posts.{HasSeat, HasSeats};
 ghost use Rattle.kp_shared.specs.Sharing.{AreBlank, HasSplit, IsBlank, IsFirstSeat, IsNewSeat, IsNodeSeatOf, SplitSeats, Splits};
 ghost use Rattle.kp_shared.specs.TaskSteps.{IsAlive};
 
-use crate::carried::Carried;
 use crate::kept::{Kept, Served};
 use crate::node::{NodeOf, NodeSeat, NodeSeatOf, SharedNode};
 use crate::peers::Peers;
@@ -42,7 +41,7 @@ fn peers_with(number: u8, members: u8, member: u8) -> bool
 }
 
 // Makes a link, where one is asked for.
-fn make_link<M: Carried>(
+fn make_link<M: Drop>(
     alloc: Global,
     there: bool,
     link: &mut Option<Links<M>>,
@@ -66,7 +65,7 @@ fn make_link<M: Carried>(
 }
 
 // Makes a link to each peer.
-fn make_links<M: Carried>(
+fn make_links<M: Drop>(
     alloc: Global,
     number: u8,
     members: u8,
@@ -124,7 +123,7 @@ fn make_links<M: Carried>(
 }
 
 // A seat of a link, where there is one.
-pub(crate) fn split_link<M: Carried>(
+pub(crate) fn split_link<M: Drop>(
     link: &Option<Links<M>>,
     seat: &mut Option<LinkSeat<M>>,
 ) -> Option<LinkSeat<M>>

@@ -14,7 +14,7 @@ pub enum Task<M> {
 #[derive(Drop)]
 pub enum Answer<M> {
     /// To a Think.
-    Thought(Thought<M>),
+    Thought(Thought<(u8, M)>),
 
     /// To a Flush: the number of the last event that was thought.
     Kept(u64),

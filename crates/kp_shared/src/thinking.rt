@@ -29,7 +29,7 @@ pub fn think<R: Wait, K: Kept, C: Clock>(
     seat: &mut TurnSeat<Served<K>>,
     clock: &C,
     kind: NodeEventKind<K::Mail>,
-) -> Result<Thought<K::Mail>, Refusal>
+) -> Result<Thought<(u8, K::Mail)>, Refusal>
     requires { IsNodeTurn (λ s. K.life s.kept) turn.now seat.old }
     ensures seat { IsNodeTurn (λ s. K.life s.kept) turn.now seat.new }
     ensures tells { ThinkTells (C.may clock.now) kind result seat.old seat.new }

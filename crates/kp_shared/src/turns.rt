@@ -37,7 +37,7 @@ fn finds_none_left(said: &Said) -> bool
 }
 
 // Looks at a thought.
-fn glance_at<M>(thought: &Thought<M>) -> Glance
+fn glance_at<M>(thought: &Thought<(u8, M)>) -> Glance
     ensures { result.none_left ≡ is_none_left thought.now.said }
 {
     Glance {
@@ -53,7 +53,7 @@ fn think_more<R: Wait, K: Kept, C: Clock>(
     seat: &mut TurnSeat<Served<K>>,
     clock: &C,
     kind: NodeEventKind<K::Mail>,
-    batch: &mut Vec<Thought<K::Mail>>,
+    batch: &mut Vec<Thought<(u8, K::Mail)>>,
 ) -> Result<Glance, Refusal>
     requires { IsNodeTurn (λ s. K.life s.kept) turn.now seat.old }
     ensures seat { IsNodeTurn (λ s. K.life s.kept) turn.now seat.new }
@@ -79,7 +79,7 @@ fn commit_more<R: Wait, K: Kept, C: Clock>(
     turn: &Turn<Served<K>>,
     seat: &mut TurnSeat<Served<K>>,
     clock: &C,
-    batch: &mut Vec<Thought<K::Mail>>,
+    batch: &mut Vec<Thought<(u8, K::Mail)>>,
 ) -> Result<Standing, Refusal>
     requires { IsNodeTurn (λ s. K.life s.kept) turn.now seat.old }
     ensures seat { IsNodeTurn (λ s. K.life s.kept) turn.now seat.new }
@@ -105,7 +105,7 @@ fn take_commits<R: Wait, K: Kept, C: Clock>(
     seat: &mut TurnSeat<Served<K>>,
     clock: &C,
     told: &mut Told,
-    batch: &mut Vec<Thought<K::Mail>>,
+    batch: &mut Vec<Thought<(u8, K::Mail)>>,
 ) -> Result<(), Refusal>
     requires { IsNodeTurn (λ s. K.life s.kept) turn.now seat.old }
     ensures seat { IsNodeTurn (λ s. K.life s.kept) turn.now seat.new }
@@ -128,7 +128,7 @@ fn take_event<R: Wait, K: Kept, C: Clock>(
     clock: &C,
     told: &mut Told,
     kind: NodeEventKind<K::Mail>,
-    batch: &mut Vec<Thought<K::Mail>>,
+    batch: &mut Vec<Thought<(u8, K::Mail)>>,
 ) -> Result<(), Refusal>
     requires { IsNodeTurn (λ s. K.life s.kept) turn.now seat.old }
     ensures seat { IsNodeTurn (λ s. K.life s.kept) turn.now seat.new }
@@ -151,7 +151,7 @@ fn maybe_commits<R: Wait, K: Kept, C: Clock>(
     seat: &mut TurnSeat<Served<K>>,
     clock: &C,
     told: &mut Told,
-    batch: &mut Vec<Thought<K::Mail>>,
+    batch: &mut Vec<Thought<(u8, K::Mail)>>,
 ) -> Result<(), Refusal>
     requires { IsNodeTurn (λ s. K.life s.kept) turn.now seat.old }
     ensures seat { IsNodeTurn (λ s. K.life s.kept) turn.now seat.new }
@@ -170,7 +170,7 @@ fn maybe_beat<R: Wait, K: Kept, C: Clock>(
     seat: &mut TurnSeat<Served<K>>,
     clock: &C,
     told: &mut Told,
-    batch: &mut Vec<Thought<K::Mail>>,
+    batch: &mut Vec<Thought<(u8, K::Mail)>>,
 ) -> Result<(), Refusal>
     requires { IsNodeTurn (λ s. K.life s.kept) turn.now seat.old }
     ensures seat { IsNodeTurn (λ s. K.life s.kept) turn.now seat.new }
@@ -190,7 +190,7 @@ fn take_step<R: Wait, K: Kept, C: Clock>(
     clock: &C,
     told: &mut Told,
     step: Step<K::Mail>,
-    batch: &mut Vec<Thought<K::Mail>>,
+    batch: &mut Vec<Thought<(u8, K::Mail)>>,
 ) -> Result<(), Refusal>
     requires { IsNodeTurn (λ s. K.life s.kept) turn.now seat.old }
     ensures seat { IsNodeTurn (λ s. K.life s.kept) turn.now seat.new }
@@ -212,7 +212,7 @@ pub fn think_plan<R: Wait, K: Kept, C: Clock>(
     clock: &C,
     told: &mut Told,
     plan: Vec<Step<K::Mail>>,
-    batch: &mut Vec<Thought<K::Mail>>,
+    batch: &mut Vec<Thought<(u8, K::Mail)>>,
 ) -> Result<(), Refusal>
     requires { IsNodeTurn (λ s. K.life s.kept) turn.now seat.old }
     ensures seat { IsNodeTurn (λ s. K.life s.kept) turn.now seat.new }
@@ -232,8 +232,8 @@ fn keep_batch<R: Wait, K: Kept>(
     rt: &R,
     turn: &Turn<Served<K>>,
     seat: &mut TurnSeat<Served<K>>,
-    batch: Vec<Thought<K::Mail>>,
-) -> Result<Vec<Thought<K::Mail>>, Refusal>
+    batch: Vec<Thought<(u8, K::Mail)>>,
+) -> Result<Vec<Thought<(u8, K::Mail)>>, Refusal>
     requires { IsNodeTurn (λ s. K.life s.kept) turn.now seat.old }
     ensures seat { IsNodeTurn (λ s. K.life s.kept) turn.now seat.new }
     ensures tells { KeepTells batch result seat.old seat.new }
@@ -252,8 +252,8 @@ fn keep_one<R: Wait, K: Kept>(
     rt: &R,
     turn: &Turn<Served<K>>,
     seat: &mut TurnSeat<Served<K>>,
-    thought: Thought<K::Mail>,
-) -> Result<Thought<K::Mail>, Refusal>
+    thought: Thought<(u8, K::Mail)>,
+) -> Result<Thought<(u8, K::Mail)>, Refusal>
     requires { IsNodeTurn (λ s. K.life s.kept) turn.now seat.old }
     ensures seat { IsNodeTurn (λ s. K.life s.kept) turn.now seat.new }
     ensures tells { KeepTells thought result seat.old seat.new }
@@ -274,7 +274,7 @@ pub fn think_kept<R: Wait, K: Kept, C: Clock>(
     seat: &mut TurnSeat<Served<K>>,
     clock: &C,
     kind: NodeEventKind<K::Mail>,
-) -> Result<Thought<K::Mail>, Refusal>
+) -> Result<Thought<(u8, K::Mail)>, Refusal>
     requires { IsNodeTurn (λ s. K.life s.kept) turn.now seat.old }
     ensures seat { IsNodeTurn (λ s. K.life s.kept) turn.now seat.new }
     ensures tells { OneTells (C.may clock.now) seat.old seat.new kind result }
@@ -294,7 +294,7 @@ pub fn make_turn<R: Wait, K: Kept, C: Clock>(
     clock: &C,
     told: &mut Told,
     plan: Vec<Step<K::Mail>>,
-) -> Result<Vec<Thought<K::Mail>>, Refusal>
+) -> Result<Vec<Thought<(u8, K::Mail)>>, Refusal>
     requires { IsNodeTurn (λ s. K.life s.kept) turn.now seat.old }
     ensures seat { IsNodeTurn (λ s. K.life s.kept) turn.now seat.new }
     ensures tells { MatchResult result (λ thoughts. TurnDone (C.may clock.now) seat.old seat.new plan.items thoughts.items) (λ refusal. TurnBroken (C.may clock.now) seat.old seat.new plan.items refusal) }

@@ -9,6 +9,7 @@ use Rattle.kp_event.specs.declared.fail.KeptFail.TheVariants as fail
 use Rattle.kp_event.specs.declared.said.Said.{Said}
 use Rattle.kp_event.specs.declared.said.Said.TheVariants as said
 use Rattle.kp_event.specs.Kinds.{row_of_kind, row_of_said}
+use Rattle.kp_shared.specs.Letters.{Letter}
 use Rattle.kp_shared.specs.declared.peers.Peers.{Peers}
 use Rattle.kp_shared.specs.declared.task.Task.TheVariants as task
 use Rattle.kp_shared.specs.declared.task.Answer.TheVariants as answer
@@ -72,9 +73,9 @@ module _ {M : Type 0} where
     faults = b.faults ∙ a.faults;
   }
 
-  pub posts_note : (receiver : M → ℕ) (ns : List (Note M)) (n : Note M) (a b c : Peers (LinkSeat M)) → Posts receiver (mails ns) a b → Posts receiver (mail_of n.thought) b c → Posts receiver (mails (ns ++ n ∷ [])) a c
-  posts_note receiver ns n a b c p q = subst (λ (l : List M). Posts receiver l a c) (ap (λ (l : List M). mails ns ++ l) (sym (append_nil (mail_of n.thought))) ∙ sym (joined_both (λ (x : Note M). mail_of x.thought) ns (n ∷ [])))
-      (posts_more receiver (mails ns) (mail_of n.thought) a b c p q)
+  pub posts_note : (ns : List (Note M)) (n : Note M) (a b c : Peers (LinkSeat M)) → Posts (mails ns) a b → Posts (mail_of n.thought) b c → Posts (mails (ns ++ n ∷ [])) a c
+  posts_note ns n a b c p q = subst (λ (l : List (Letter M)). Posts l a c) (ap (λ (l : List (Letter M)). mails ns ++ l) (sym (append_nil (mail_of n.thought))) ∙ sym (joined_both (λ (x : Note M). mail_of x.thought) ns (n ∷ [])))
+      (posts_more (mails ns) (mail_of n.thought) a b c p q)
 
   -- a new connection waits for each number that is left to give
   pub waits_left : (o0 o1 : Outside) (done rest all : List (Note M)) (n : Note M) → done ++ n ∷ rest ≡ all → Releases o0 o1 done → openings all ≤ o0.waits → one_where (opening n.thought) ≤ o1.waits

@@ -7,6 +7,7 @@ use Rattle.kp_event.specs.declared.event.NodeEventKind.TheVariants as kind
 use Rattle.kp_event.specs.declared.fail.KeptFail.{KeptFail}
 use Rattle.kp_event.specs.declared.fail.KeptFail.TheVariants as fail
 use Rattle.kp_event.specs.declared.thought.Thought.{Thought}
+use Rattle.kp_shared.specs.Letters.{Letter}
 use Rattle.kp_shared.specs.declared.refusal.Refusal.{Refusal}
 use Rattle.kp_shared.specs.declared.refusal.Refusal.TheVariants as refusal
 use Rattle.kp_shared.specs.declared.task.Task.{Task}
@@ -61,15 +62,15 @@ module _ {M : Type 0} where
   notes_more : (b b1 b2 : List (Note M)) (xs : List (Did M)) (d : Did M) (n : Note M) → note_at d ≡ n ∷ [] → b1 ≡ b ++ notes xs → b2 ≡ b1 ++ n ∷ [] → b2 ≡ b ++ notes (xs ++ d ∷ [])
   notes_more b b1 b2 xs d n e p q = q ∙ ap (λ (l : List (Note M)). l ++ n ∷ []) p ∙ append_assoc b (notes xs) (n ∷ []) ∙ ap (λ (l : List (Note M)). b ++ l) (sym (notes_one xs d n e))
 
-  did_done : (now : ℕ) (k : NodeEventKind M) (o : Option (Thought M)) → FitsKind k o → IsDone (task.Think record { now = now; kind = k }, answer_of o)
+  did_done : (now : ℕ) (k : NodeEventKind M) (o : Option (Thought (Letter M))) → FitsKind k o → IsDone (task.Think record { now = now; kind = k }, answer_of o)
   did_done now k None f = tt
   did_done now k (Some t) f = f
 
-  did_note : (now : ℕ) (k : NodeEventKind M) (o : Option (Thought M)) → note_at (task.Think record { now = now; kind = k }, answer_of o) ≡ record { mark = mark_of k; thought = o } ∷ []
+  did_note : (now : ℕ) (k : NodeEventKind M) (o : Option (Thought (Letter M))) → note_at (task.Think record { now = now; kind = k }, answer_of o) ≡ record { mark = mark_of k; thought = o } ∷ []
   did_note now k None = refl
   did_note now k (Some t) = refl
 
-  did_end : (now : ℕ) (k : NodeEventKind M) (o : Option (Thought M)) → ends_commits {M = M} (task.Think record { now = now; kind = k }, answer_of o) ≡ is_end o
+  did_end : (now : ℕ) (k : NodeEventKind M) (o : Option (Thought (Letter M))) → ends_commits {M = M} (task.Think record { now = now; kind = k }, answer_of o) ≡ is_end o
   did_end now k None = refl
   did_end now k (Some t) = refl
 

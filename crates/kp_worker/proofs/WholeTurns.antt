@@ -7,6 +7,7 @@ use Rattle.kp_turn.specs.StopRule.{with_read}
 use Rattle.kp_links.specs.declared.link.LinkSeat.{LinkSeat}
 use Rattle.kp_io.specs.Faults.{one_more}
 use Rattle.kp_event.specs.declared.event.NodeEventKind.{NodeEventKind}
+use Rattle.kp_shared.specs.Letters.{Letter}
 use Rattle.kp_shared.specs.declared.peers.Peers.{Peers}
 use Rattle.kp_shared.specs.declared.refusal.Refusal.{Refusal}
 use Rattle.kp_shared.specs.Posts.{Posts}
@@ -45,9 +46,9 @@ module _ {S M : Type 0} where
       (λ y. inr (y.0, ⊎_elim (λ x. inl (same ∙ ap end_for x.0, x.1)) (λ x. inr (inl (same ∙ ap end_for x))) y.1))
       why
 
-module _ {S M : Type 0} (may : ℕ → Type 0) (receiver : M → ℕ) where
+module _ {S M : Type 0} (may : ℕ → Type 0) where
   works_turn : (o0 o1 o2 : Outside) (b0 b1 : ℕ → Option (List M)) (s s' : NodeSeatIn S M) (n : ℕ) (ks : List (NodeEventKind M)) → Gathers o0 o1 b0 b1 n ks
-      → LeaveTells o1 o2 may receiver s s' ks (Ok tt) → TurnTells o0 o2 b0 b1 may receiver s s' (Ok tt)
+      → LeaveTells o1 o2 may s s' ks (Ok tt) → TurnTells o0 o2 b0 b1 may s s' (Ok tt)
   works_turn o0 o1 o2 b0 b1 s s' n ks g w = let t = w.0 in let more = w.1 in let r = w.8 in let h = w.4 in let whole : t ++ [] ≡ t = append_nil t in (
     t,
     record {
@@ -61,7 +62,7 @@ module _ {S M : Type 0} (may : ℕ → Type 0) (receiver : M → ℕ) where
         ap (λ (l : List (Did M)). fed (kinds l)) whole ∙ ap fed w.3 ∙ fed_more o1 ks more h ∙ g.takes.2,
       );
       receives = (g.receives.0, g.receives.1, ap (λ (l : List (Did M)). delivered (kinds l)) whole ∙ ap delivered w.3 ∙ mail_more o1 ks more h ∙ g.receives.2);
-      posts = subst (λ (l : List (Did M)). Posts receiver (mails (notes l)) s.links s'.links) (sym whole) w.7;
+      posts = subst (λ (l : List (Did M)). Posts (mails (notes l)) s.links s'.links) (sym whole) w.7;
       lives = λ c. (o1.state c, subst (λ (l : List (NodeEventKind M)). Passes c (o0.state c) l (o1.state c)) (sym w.3) (passes_both c (o0.state c) (o1.state c) (o1.state c) ks more (g.lives c) (h.lives c)), r.lives c);
       stop = ap stop_view w.9;
       faults = r.faults ∙ g.faults;
@@ -69,8 +70,8 @@ module _ {S M : Type 0} (may : ℕ → Type 0) (receiver : M → ℕ) where
   )
 
   cuts_turn : (o0 o1 o2 : Outside) (b0 b1 : ℕ → Option (List M)) (s s' : NodeSeatIn S M) (n : ℕ) (ks : List (NodeEventKind M)) (e : NodeEnd) → Gathers o0 o1 b0 b1 n ks
-      → LeaveTells o1 o2 may receiver s s' ks (Err e) → Cuts o0 o2 b0 b1 may receiver s s' e
-  cuts_turn o0 o1 o2 b0 b1 s s' n ks e g w = let cut = w.2 in let h = cut.3 in let more = cut.2 in subst (λ (o : Outside). Cuts o0 o b0 b1 may receiver s s' e) (sym w.3) (record {
+      → LeaveTells o1 o2 may s s' ks (Err e) → Cuts o0 o2 b0 b1 may s s' e
+  cuts_turn o0 o1 o2 b0 b1 s s' n ks e g w = let cut = w.2 in let h = cut.3 in let more = cut.2 in subst (λ (o : Outside). Cuts o0 o b0 b1 may s s' e) (sym w.3) (record {
     cut = cut.0;
     last = cut.1;
     does = cut.5.does;
@@ -87,12 +88,12 @@ module _ {S M : Type 0} (may : ℕ → Type 0) (receiver : M → ℕ) where
   })
 
   pub turn_ends : (o0 o1 o2 : Outside) (b0 b1 : ℕ → Option (List M)) (s s' : NodeSeatIn S M) (n : ℕ) (ks : List (NodeEventKind M)) (r : Result (Unit {0}) NodeEnd) → Gathers o0 o1 b0 b1 n ks
-      → LeaveTells o1 o2 may receiver s s' ks r → TurnTells o0 o2 b0 b1 may receiver s s' r
+      → LeaveTells o1 o2 may s s' ks r → TurnTells o0 o2 b0 b1 may s s' r
   turn_ends o0 o1 o2 b0 b1 s s' n ks (Ok u) g w = works_turn o0 o1 o2 b0 b1 s s' n ks g w
   turn_ends o0 o1 o2 b0 b1 s s' n ks (Err e) g w = cuts_turn o0 o1 o2 b0 b1 s s' n ks e g w
 
   -- waiting failed
-  pub cuts_fault : (o0 o1 : Outside) (b : ℕ → Option (List M)) (s : NodeSeatIn S M) → Tells o0 o1 [] [] → ((c : ℕ) → o1.state c ≡ o0.state c) → o1.faults ≡ one_more o0.faults → Cuts o0 o1 b b may receiver s s end.NetFault
+  pub cuts_fault : (o0 o1 : Outside) (b : ℕ → Option (List M)) (s : NodeSeatIn S M) → Tells o0 o1 [] [] → ((c : ℕ) → o1.state c ≡ o0.state c) → o1.faults ≡ one_more o0.faults → Cuts o0 o1 b b may s s end.NetFault
   cuts_fault o0 o1 b s t st f = record {
     cut = [];
     last = [];
@@ -109,21 +110,21 @@ module _ {S M : Type 0} (may : ℕ → Type 0) (receiver : M → ℕ) where
     stop = refl;
   }
 
-  pub works_none : (o : Outside) (b : ℕ → Option (List M)) (s : NodeSeatIn S M) → Works o o b b may receiver s s []
+  pub works_none : (o : Outside) (b : ℕ → Option (List M)) (s : NodeSeatIn S M) → Works o o b b may s s []
   works_none o b s = record {
     does = does_none (view s.turn);
     times = tt;
     whole = tt;
     takes = ([], tells_none o, refl);
     receives = ([], receives_none b, refl);
-    posts = posts_none receiver s.links;
+    posts = posts_none s.links;
     lives = λ c. refl;
     stop = refl;
     faults = refl;
   }
 
-  pub works_both : (o0 o1 o2 : Outside) (b0 b1 b2 : ℕ → Option (List M)) (s m s' : NodeSeatIn S M) (xs ys : List (List (Did M))) → Works o0 o1 b0 b1 may receiver s m xs → Works o1 o2 b1 b2 may receiver m s' ys
-      → Works o0 o2 b0 b2 may receiver s s' (xs ++ ys)
+  pub works_both : (o0 o1 o2 : Outside) (b0 b1 b2 : ℕ → Option (List M)) (s m s' : NodeSeatIn S M) (xs ys : List (List (Did M))) → Works o0 o1 b0 b1 may s m xs → Works o1 o2 b1 b2 may m s' ys
+      → Works o0 o2 b0 b2 may s s' (xs ++ ys)
   works_both o0 o1 o2 b0 b1 b2 s m s' xs ys a b = let ds = flat xs in let es = flat ys in let all : flat (xs ++ ys) ≡ ds ++ es = joined_both (λ (t : List (Did M)). t) xs ys in
       let ns : notes (flat (xs ++ ys)) ≡ notes ds ++ notes es = ap notes all ∙ joined_both note_at ds es in
       let ks : kinds (flat (xs ++ ys)) ≡ kinds ds ++ kinds es = ap kinds all ∙ kinds_both ds es in record {
@@ -143,23 +144,23 @@ module _ {S M : Type 0} (may : ℕ → Type 0) (receiver : M → ℕ) where
           ap delivered ks ∙ joined_both mail_in (kinds ds) (kinds es) ∙ ap (λ (l : List M). l ++ delivered (kinds es)) a.receives.2 ∙ ap (λ (l : List M). mail_alone a.receives.0 ++ l) b.receives.2
               ∙ sym (joined_both (λ (h : ℕ × M). h.1 ∷ []) a.receives.0 b.receives.0),
         );
-        posts = subst (λ (l : List M). Posts receiver l s.links s'.links) (sym (ap mails ns ∙ joined_both (λ (n : Note M). mail_of n.thought) (notes ds) (notes es)))
-            (posts_more receiver (mails (notes ds)) (mails (notes es)) s.links m.links s'.links a.posts b.posts);
+        posts = subst (λ (l : List (Letter M)). Posts l s.links s'.links) (sym (ap mails ns ∙ joined_both (λ (n : Note M). mail_of n.thought) (notes ds) (notes es)))
+            (posts_more (mails (notes ds)) (mails (notes es)) s.links m.links s'.links a.posts b.posts);
         lives = λ c. lives_both c (o0.state c) (o1.state c) (o2.state c) xs ys (a.lives c) (b.lives c);
         stop = b.stop ∙ a.stop;
         faults = b.faults ∙ a.faults;
       }
 
   -- a look at the stop word, and maybe a wait, between turns
-  pub works_still : (o0 o1 o2 : Outside) (b0 b1 : ℕ → Option (List M)) (s m s' : NodeSeatIn S M) (xs : List (List (Did M))) → Works o0 o1 b0 b1 may receiver s m xs
-      → Tells o1 o2 [] [] → ((c : ℕ) → o2.state c ≡ o1.state c) → o2.faults ≡ o1.faults → s'.turn ≡ m.turn → s'.links ≡ m.links → stop_view s'.stop ≡ stop_view m.stop → Works o0 o2 b0 b1 may receiver s s' xs
+  pub works_still : (o0 o1 o2 : Outside) (b0 b1 : ℕ → Option (List M)) (s m s' : NodeSeatIn S M) (xs : List (List (Did M))) → Works o0 o1 b0 b1 may s m xs
+      → Tells o1 o2 [] [] → ((c : ℕ) → o2.state c ≡ o1.state c) → o2.faults ≡ o1.faults → s'.turn ≡ m.turn → s'.links ≡ m.links → stop_view s'.stop ≡ stop_view m.stop → Works o0 o2 b0 b1 may s s' xs
   works_still o0 o1 o2 b0 b1 s m s' xs a t st f turn links stop = record {
     does = subst (λ x. Does (view s.turn) (view x) (flat xs)) (sym turn) a.does;
     times = a.times;
     whole = a.whole;
     takes = (a.takes.0, tells_still o0 o1 o2 a.takes.0 (pieces (notes (flat xs))) a.takes.1 t, a.takes.2);
     receives = a.receives;
-    posts = subst (λ (x : Peers (LinkSeat M)). Posts receiver (mails (notes (flat xs))) s.links x) (sym links) a.posts;
+    posts = subst (λ (x : Peers (LinkSeat M)). Posts (mails (notes (flat xs))) s.links x) (sym links) a.posts;
     lives = λ c. subst (λ (x : LineState). Lives c (o0.state c) xs x) (sym (st c)) (a.lives c);
     stop = stop ∙ a.stop;
     faults = f ∙ a.faults;
@@ -167,13 +168,13 @@ module _ {S M : Type 0} (may : ℕ → Type 0) (receiver : M → ℕ) where
 
   -- what may leave of a turn that was kept has left
   pub leave_ok : {A : Type 0} (items : A → List (Note M)) (o o' : Outside) (s s' : NodeSeatIn S M) (ks : List (NodeEventKind M)) (v : A) → KeptTells may s.turn s'.turn items o ks (Ok v)
-      → Posts receiver (mails (items v)) s.links s'.links → Releases o o' (items v) → s'.stop ≡ s.stop → LeaveTells o o' may receiver s s' ks (Ok tt)
-  leave_ok items o o' s s' ks v k p r stop = (k.0, k.1, k.2, k.3, k.4, k.6, k.7, subst (λ (l : List (Note M)). Posts receiver (mails l) s.links s'.links) k.5 p, subst (λ (l : List (Note M)). Releases o o' l) k.5 r, stop)
+      → Posts (mails (items v)) s.links s'.links → Releases o o' (items v) → s'.stop ≡ s.stop → LeaveTells o o' may s s' ks (Ok tt)
+  leave_ok items o o' s s' ks v k p r stop = (k.0, k.1, k.2, k.3, k.4, k.6, k.7, subst (λ (l : List (Note M)). Posts (mails l) s.links s'.links) k.5 p, subst (λ (l : List (Note M)). Releases o o' l) k.5 r, stop)
 
-  pub call_stopped : (o o1 : Outside) (b b1 : ℕ → Option (List M)) (s m s' : NodeSeatIn S M) (xs : List (List (Did M))) → Works o o1 b b1 may receiver s m xs → s'.turn ≡ m.turn → s'.links ≡ m.links
-      → stop_view s'.stop ≡ with_read true (stop_view m.stop) → CallTells o o1 b b1 may receiver s s' end.Stopped
+  pub call_stopped : (o o1 : Outside) (b b1 : ℕ → Option (List M)) (s m s' : NodeSeatIn S M) (xs : List (List (Did M))) → Works o o1 b b1 may s m xs → s'.turn ≡ m.turn → s'.links ≡ m.links
+      → stop_view s'.stop ≡ with_read true (stop_view m.stop) → CallTells o o1 b b1 may s s' end.Stopped
   call_stopped o o1 b b1 s m s' xs w turn links stop = (xs, m, o1, b1, w, inl (refl, refl, refl, turn, links, stop))
 
-  pub call_cut : (o o1 o' : Outside) (b b1 b' : ℕ → Option (List M)) (s m s' : NodeSeatIn S M) (xs : List (List (Did M))) (e : NodeEnd) → Works o o1 b b1 may receiver s m xs → Cuts o1 o' b1 b' may receiver m s' e
-      → CallTells o o' b b' may receiver s s' e
+  pub call_cut : (o o1 o' : Outside) (b b1 b' : ℕ → Option (List M)) (s m s' : NodeSeatIn S M) (xs : List (List (Did M))) (e : NodeEnd) → Works o o1 b b1 may s m xs → Cuts o1 o' b1 b' may m s' e
+      → CallTells o o' b b' may s s' e
   call_cut o o1 o' b b1 b' s m s' xs e w cut = (xs, m, o1, b1, w, inr cut)

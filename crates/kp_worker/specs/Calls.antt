@@ -71,12 +71,12 @@ EndsSo {S} {M} e w last f f' = ((t : Task M) × (x : KeptFail) × (last ≡ (t, 
     ⊎ ((last ≡ []) × (((e ≡ end.Worn) × IsFull w) ⊎ ((e ≡ end.NoMemory) ⊎ ((e ≡ end.NetFault) × (f' ≡ one_more f)))))
 
 -- a turn of these events, and maybe some that are harmless, was kept, and what may leave has left; or it was cut, and nothing left
-abbrev pub LeaveTells : {S M : Type 0} → Outside → Outside → (ℕ → Type 0) → (M → ℕ) → NodeSeatIn S M → NodeSeatIn S M → List (NodeEventKind M) → Result (Unit {0}) NodeEnd → Type 0
-LeaveTells {S} {M} o o' may receiver s s' ks (Ok u) = (t : List (Did M)) × (more : List (NodeEventKind M)) × IsTurn t × (kinds t ≡ ks ++ more) × Harmless o more
-    × Does (view s.turn) (view s'.turn) t × Each (InTime may) t × Posts receiver (mails (notes t)) s.links s'.links × Releases o o' (notes t) × (s'.stop ≡ s.stop)
-LeaveTells o o' may receiver s s' ks (Err e) = (r : Refusal) × (e ≡ end_for r) × CutTells may s.turn s'.turn o ks r × (o' ≡ o) × (s'.links ≡ s.links) × (s'.stop ≡ s.stop)
+abbrev pub LeaveTells : {S M : Type 0} → Outside → Outside → (ℕ → Type 0) → NodeSeatIn S M → NodeSeatIn S M → List (NodeEventKind M) → Result (Unit {0}) NodeEnd → Type 0
+LeaveTells {S} {M} o o' may s s' ks (Ok u) = (t : List (Did M)) × (more : List (NodeEventKind M)) × IsTurn t × (kinds t ≡ ks ++ more) × Harmless o more
+    × Does (view s.turn) (view s'.turn) t × Each (InTime may) t × Posts (mails (notes t)) s.links s'.links × Releases o o' (notes t) × (s'.stop ≡ s.stop)
+LeaveTells o o' may s s' ks (Err e) = (r : Refusal) × (e ≡ end_for r) × CutTells may s.turn s'.turn o ks r × (o' ≡ o) × (s'.links ≡ s.links) × (s'.stop ≡ s.stop)
 
-module _ {S M : Type 0} (o o' : Outside) (box box' : ℕ → Option (List M)) (may : ℕ → Type 0) (receiver : M → ℕ) (s s' : NodeSeatIn S M) where
+module _ {S M : Type 0} (o o' : Outside) (box box' : ℕ → Option (List M)) (may : ℕ → Type 0) (s s' : NodeSeatIn S M) where
   -- whole turns: each event was kept, and all that may leave has left
   pub record Works (turns : List (List (Did M))) : Type 0 where
     pub does : Does (view s.turn) (view s'.turn) (flat turns)
@@ -85,7 +85,7 @@ module _ {S M : Type 0} (o o' : Outside) (box box' : ℕ → Option (List M)) (m
     -- each Client is a piece that its stream gave, and each Hangup an end or a fault that it answered; what was drained was handed out
     pub takes : (taken : List (ℕ × Heard)) × Tells o o' taken (pieces (notes (flat turns))) × (fed (kinds (flat turns)) ≡ asked taken)
     pub receives : (ms : List (ℕ × M)) × Receives box box' ms × (delivered (kinds (flat turns)) ≡ mail_alone ms)
-    pub posts : Posts receiver (mails (notes (flat turns))) s.links s'.links
+    pub posts : Posts (mails (notes (flat turns))) s.links s'.links
     pub lives : (c : ℕ) → Lives c (o.state c) turns (o'.state c)
     pub stop : stop_view s'.stop ≡ stop_view s.stop
     pub faults : o'.faults ≡ o.faults
@@ -113,6 +113,6 @@ module _ {S M : Type 0} (o o' : Outside) (box box' : ℕ → Option (List M)) (m
   TurnTells (Err e) = Cuts e
 
 -- the whole call: whole turns, and then the stop word was found set, or a turn was cut
-abbrev pub CallTells : {S M : Type 0} → Outside → Outside → (ℕ → Option (List M)) → (ℕ → Option (List M)) → (ℕ → Type 0) → (M → ℕ) → NodeSeatIn S M → NodeSeatIn S M → NodeEnd → Type 0
-CallTells {S} {M} o o' box box' may receiver s s' e = (turns : List (List (Did M))) × (m : NodeSeatIn S M) × (o1 : Outside) × (box1 : ℕ → Option (List M)) × Works o o1 box box1 may receiver s m turns
-    × (((e ≡ end.Stopped) × (o' ≡ o1) × (box' ≡ box1) × (s'.turn ≡ m.turn) × (s'.links ≡ m.links) × (stop_view s'.stop ≡ with_read true (stop_view m.stop))) ⊎ Cuts o1 o' box1 box' may receiver m s' e)
+abbrev pub CallTells : {S M : Type 0} → Outside → Outside → (ℕ → Option (List M)) → (ℕ → Option (List M)) → (ℕ → Type 0) → NodeSeatIn S M → NodeSeatIn S M → NodeEnd → Type 0
+CallTells {S} {M} o o' box box' may s s' e = (turns : List (List (Did M))) × (m : NodeSeatIn S M) × (o1 : Outside) × (box1 : ℕ → Option (List M)) × Works o o1 box box1 may s m turns
+    × (((e ≡ end.Stopped) × (o' ≡ o1) × (box' ≡ box1) × (s'.turn ≡ m.turn) × (s'.links ≡ m.links) × (stop_view s'.stop ≡ with_read true (stop_view m.stop))) ⊎ Cuts o1 o' box1 box' may m s' e)

@@ -6,6 +6,7 @@ use Rattle.kp_event.specs.declared.thought.Thought.{Thought}
 use Rattle.kp_event.specs.declared.said.Said.{Said}
 use Rattle.kp_event.specs.declared.said.Said.TheVariants as said
 use Rattle.kp_event.specs.declared.said.FedWord.TheVariants as word
+use Rattle.kp_shared.specs.Letters.{Letter}
 use Rattle.kp_shared.specs.declared.task.Task.TheVariants as task
 use Rattle.kp_shared.specs.declared.task.Answer.TheVariants as answer
 use Rattle.kp_shared.specs.Tasks.{Did, is_none_left, out_of}
@@ -50,11 +51,11 @@ abbrev pub notes : {M : Type 0} → List (Did M) → List (Note M)
 notes ds = joined note_at ds
 
 -- its messages
-abbrev pub mail_of : {M : Type 0} → Option (Thought M) → List M
+abbrev pub mail_of : {M : Type 0} → Option (Thought (Letter M)) → List (Letter M)
 mail_of None = []
 mail_of (Some t) = t.mail
 
-abbrev pub mails : {M : Type 0} → List (Note M) → List M
+abbrev pub mails : {M : Type 0} → List (Note M) → List (Letter M)
 mails ns = joined (λ n. mail_of n.thought) ns
 
 -- the bytes that it drained, with their connection
@@ -63,7 +64,7 @@ drained_at (mark.Drained c) s = (c, out_of s) ∷ []
 drained_at (mark.Fed c) s = []
 drained_at mark.Other s = []
 
-abbrev pub piece_of : {M : Type 0} → Mark → Option (Thought M) → List (ℕ × List ℕ)
+abbrev pub piece_of : {M : Type 0} → Mark → Option (Thought (Letter M)) → List (ℕ × List ℕ)
 piece_of m None = []
 piece_of m (Some t) = drained_at m t.said
 
@@ -82,7 +83,7 @@ opened_by (said.Done n) = None
 opened_by (said.Expired n) = None
 opened_by (said.Snapped n) = None
 
-abbrev pub opening : {M : Type 0} → Option (Thought M) → Option ℕ
+abbrev pub opening : {M : Type 0} → Option (Thought (Letter M)) → Option ℕ
 opening None = None
 opening (Some t) = opened_by t.said
 
@@ -130,7 +131,7 @@ starves (mark.Drained c) = Some c
 starves mark.Other = None
 
 -- the connection that it ends
-abbrev pub ending : {M : Type 0} → Mark → Option (Thought M) → Option ℕ
+abbrev pub ending : {M : Type 0} → Mark → Option (Thought (Letter M)) → Option ℕ
 ending m None = starves m
 ending m (Some t) = ends_at m t.said
 
@@ -160,6 +161,6 @@ openings [] = 0
 openings (n ∷ ns) = one_where (opening n.thought) + openings ns
 
 -- no commit comes behind it: it found no further entry, or was refused
-abbrev pub is_end : {M : Type 0} → Option (Thought M) → Bool
+abbrev pub is_end : {M : Type 0} → Option (Thought (Letter M)) → Bool
 is_end None = true
 is_end (Some t) = is_none_left t.said

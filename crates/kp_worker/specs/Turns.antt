@@ -8,6 +8,7 @@ use Rattle.kp_event.specs.declared.fail.KeptFail.{KeptFail}
 use Rattle.kp_event.specs.declared.fail.KeptFail.TheVariants as fail
 use Rattle.kp_event.specs.declared.thought.Thought.{Thought}
 use Rattle.kp_event.specs.Kinds.{row_of_kind, row_of_said}
+use Rattle.kp_shared.specs.Letters.{Letter}
 use Rattle.kp_shared.specs.declared.refusal.Refusal.{Refusal}
 use Rattle.kp_shared.specs.declared.refusal.Refusal.TheVariants as refusal
 use Rattle.kp_shared.specs.declared.task.Task.{Task}
@@ -70,11 +71,11 @@ abbrev pub AddsHarmless : {M : Type 0} → Outside → List (NodeEventKind M) �
 AddsHarmless {M} o ks ks' = (more : List (NodeEventKind M)) × (ks' ≡ ks ++ more) × Harmless o more
 
 -- what a think is answered whose thought is this, or none for want of memory
-abbrev pub answer_of : {M : Type 0} → Option (Thought M) → Answered M
+abbrev pub answer_of : {M : Type 0} → Option (Thought (Letter M)) → Answered M
 answer_of (Some t) = Ok (answer.Thought t)
 answer_of None = Err fail.NoMemory
 
-abbrev pub FitsKind : {M : Type 0} → NodeEventKind M → Option (Thought M) → Type 0
+abbrev pub FitsKind : {M : Type 0} → NodeEventKind M → Option (Thought (Letter M)) → Type 0
 FitsKind k (Some t) = row_of_said t.said ≡ row_of_kind k
 FitsKind k None = ⊤
 

@@ -10,7 +10,7 @@ use crate::inbox::Inbox;
 use crate::lines::Lines;
 use crate::pace::{Due, Pace};
 use kp_event::NodeEventKind;
-use kp_shared::Carried;
+use kp_shared::Kept;
 use std::alloc::Global;
 use std::sync::Wait;
 
@@ -99,23 +99,28 @@ where
 }
 
 // Delivers a message.
-fn deliver<M: Carried, P: Pace>(pace: &mut P, now: u64, kinds: &mut Vec<NodeEventKind<M>>, mail: M)
+fn deliver<K: Kept, P: Pace>(
+    pace: &mut P,
+    now: u64,
+    kinds: &mut Vec<NodeEventKind<K::Mail>>,
+    mail: K::Mail,
+)
     requires room { length kinds.old.items < vec_capacity kinds.old }
     ensures kinds { kinds.new.items ≡ kinds.old.items ++ Deliver mail ∷ [] }
 {
-    if mail.feeds_log() {
+    if K::feeds_log(&mail) {
         pace.hears_leader(now);
     }
     kinds.push_reserved(NodeEventKind::Deliver(mail));
 }
 
 // Delivers the first message of a link. The answer is whether there was one.
-fn deliver_one<R: Wait, M: Carried, I: Inbox<M>, P: Pace>(
+fn deliver_one<R: Wait, K: Kept, I: Inbox<K::Mail>, P: Pace>(
     rt: &R,
     inbox: &mut I,
     pace: &mut P,
     now: u64,
-    kinds: &mut Vec<NodeEventKind<M>>,
+    kinds: &mut Vec<NodeEventKind<K::Mail>>,
 ) -> bool
     ensures adds { (o : Outside) → Adds o o (I.taken inbox.old) (I.taken inbox.new) 0 kinds.old.items kinds.new.items }
 {
@@ -124,7 +129,7 @@ fn deliver_one<R: Wait, M: Carried, I: Inbox<M>, P: Pace>(
     }
     match inbox.take(rt) {
         Some(arrived) => {
-            deliver(pace, now, kinds, arrived.mail);
+            deliver::<K, P>(pace, now, kinds, arrived.mail);
             true
         }
         None => false,
@@ -132,17 +137,17 @@ fn deliver_one<R: Wait, M: Carried, I: Inbox<M>, P: Pace>(
 }
 
 // Delivers the messages of the links.
-fn deliver_all<R: Wait, M: Carried, I: Inbox<M>, P: Pace>(
+fn deliver_all<R: Wait, K: Kept, I: Inbox<K::Mail>, P: Pace>(
     rt: &R,
     inbox: &mut I,
     pace: &mut P,
     now: u64,
-    kinds: &mut Vec<NodeEventKind<M>>,
+    kinds: &mut Vec<NodeEventKind<K::Mail>>,
 )
     ensures adds { (o : Outside) → Adds o o (I.taken inbox.old) (I.taken inbox.new) 0 kinds.old.items kinds.new.items }
 {
     for _ in 0..MESSAGES {
-        if !deliver_one(rt, inbox, pace, now, kinds) {
+        if !deliver_one::<R, K, I, P>(rt, inbox, pace, now, kinds) {
             return;
         }
     }
@@ -189,7 +194,7 @@ where
 }
 
 /// The events that come from outside: of the connections that are ready, of the links, and what is due at this time.
-pub(crate) fn gather<R: Wait, M: Carried, L: Lines, I: Inbox<M>, P: Pace>(
+pub(crate) fn gather<R: Wait, K: Kept, L: Lines, I: Inbox<K::Mail>, P: Pace>(
     rt: &R,
     alloc: Global,
     lines: &mut L,
@@ -197,13 +202,13 @@ pub(crate) fn gather<R: Wait, M: Carried, L: Lines, I: Inbox<M>, P: Pace>(
     pace: &mut P,
     now: u64,
     woken: &Woken,
-) -> Vec<NodeEventKind<M>>
+) -> Vec<NodeEventKind<K::Mail>>
     ensures gathers { Gathers (L.sees lines.old) (L.sees lines.new) (I.taken inbox.old) (I.taken inbox.new) (length woken.now.draws.items) result.items }
 {
     let mut kinds = Vec::new(alloc);
     take_all(lines, &mut kinds, woken.ready.as_slice());
     accept_all(&mut kinds, woken.draws.as_slice());
-    deliver_all(rt, inbox, pace, now, &mut kinds);
+    deliver_all::<R, K, I, P>(rt, inbox, pace, now, &mut kinds);
     add_due(&mut kinds, pace.due(now));
     kinds
 }

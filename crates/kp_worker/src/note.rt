@@ -17,5 +17,5 @@ pub enum Mark {
 #[derive(Drop)]
 pub struct Note<M> {
     pub mark: Mark,
-    pub thought: Option<Thought<M>>,
+    pub thought: Option<Thought<(u8, M)>>,
 }

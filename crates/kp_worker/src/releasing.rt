@@ -10,7 +10,7 @@ use crate::note::{Mark, Note};
 use crate::noting::{drained, ended, opened, starved};
 use kp_event::Said;
 use kp_links::{LinkSeat, Links};
-use kp_shared::{Carried, Peers, post_thought};
+use kp_shared::{Peers, post_thought};
 use std::sync::Wait;
 
 // Gives a new connection the number that was opened for it.
@@ -65,7 +65,7 @@ fn release_said<L: Lines>(lines: &mut L, mark: Mark, said: Said)
 }
 
 // Sends the mail of a thought, and lets leave what it said.
-fn release_one<R: Wait, M: Carried, L: Lines>(
+fn release_one<R: Wait, M: Drop, L: Lines>(
     rt: &R,
     links: &Peers<Links<M>>,
     seats: &mut Peers<LinkSeat<M>>,
@@ -76,7 +76,7 @@ fn release_one<R: Wait, M: Carried, L: Lines>(
     requires waits { one_where (opening note.thought) ≤ (L.sees lines.old).waits }
     requires there { AllThere (L.sees lines.old).state (drained_by note.mark) }
     ensures seats { HasSeats links.now seats.new }
-    ensures posts { Posts M.receiver (mail_of note.thought) seats.old seats.new }
+    ensures posts { Posts (mail_of note.thought) seats.old seats.new }
     ensures releases { ReleasesOne (L.sees lines.old) (L.sees lines.new) (piece_of note.mark note.thought) (opening note.thought) (ending note.mark note.thought) }
 {
     let Note { mark, thought } = note;
@@ -90,7 +90,7 @@ fn release_one<R: Wait, M: Carried, L: Lines>(
 }
 
 /// Sends the mail of these thoughts, and lets leave what they said.
-pub(crate) fn release<R: Wait, M: Carried, L: Lines>(
+pub(crate) fn release<R: Wait, M: Drop, L: Lines>(
     rt: &R,
     links: &Peers<Links<M>>,
     seats: &mut Peers<LinkSeat<M>>,
@@ -101,7 +101,7 @@ pub(crate) fn release<R: Wait, M: Carried, L: Lines>(
     requires waits { openings notes.items ≤ (L.sees lines.old).waits }
     requires there { AllThere (L.sees lines.old).state (all_drained notes.items) }
     ensures seats { HasSeats links.now seats.new }
-    ensures posts { Posts M.receiver (mails notes.items) seats.old seats.new }
+    ensures posts { Posts (mails notes.items) seats.old seats.new }
     ensures releases { Releases (L.sees lines.old) (L.sees lines.new) notes.items }
 {
     for note in notes {

@@ -18,7 +18,7 @@ use std::alloc::Global;
 use std::sync::Wait;
 
 // Looks at a thought, to know when a Beat, a Timeout and a Snapshot are worth while.
-fn look<M, P: Pace>(told: &mut Told, pace: &mut P, thought: &Thought<M>, beat: bool) {
+fn look<M, P: Pace>(told: &mut Told, pace: &mut P, thought: &Thought<(u8, M)>, beat: bool) {
     told.sees(thought.standing, beat);
     pace.sees(&thought.said, thought.standing);
 }

@@ -34,7 +34,7 @@ fn think_and_leave<R: Wait, K: Kept, L: Lines, C: Clock, P: Pace>(
     requires waits { length (draws kinds.items) ≤ (L.sees lines.old).waits }
     requires undrained { drains kinds.items ≡ [] }
     ensures seat { IsNodeSeatOf (λ s. K.life s.kept) node.now seat.new }
-    ensures tells { LeaveTells (L.sees lines.old) (L.sees lines.new) (C.may clock.now) K.Mail.receiver seat.old seat.new kinds.items result }
+    ensures tells { LeaveTells (L.sees lines.old) (L.sees lines.new) (C.may clock.now) seat.old seat.new kinds.items result }
 {
     match think_turn(
         rt,
@@ -71,10 +71,10 @@ pub(crate) fn turn_over<R: Wait, K: Kept, L: Lines, I: Inbox<K::Mail>, C: Clock,
     requires seat { IsNodeSeatOf (λ s. K.life s.kept) node.now seat.old }
     requires waits { length woken.now.draws.items ≤ (L.sees lines.old).waits }
     ensures seat { IsNodeSeatOf (λ s. K.life s.kept) node.now seat.new }
-    ensures tells { TurnTells (L.sees lines.old) (L.sees lines.new) (I.taken inbox.old) (I.taken inbox.new) (C.may clock.now) K.Mail.receiver seat.old seat.new result }
+    ensures tells { TurnTells (L.sees lines.old) (L.sees lines.new) (I.taken inbox.old) (I.taken inbox.new) (C.may clock.now) seat.old seat.new result }
 {
     let now = clock.now();
-    let kinds = gather(rt, alloc, lines, inbox, pace, now, woken);
+    let kinds = gather::<R, K, L, I, P>(rt, alloc, lines, inbox, pace, now, woken);
     think_and_leave(
         rt,
         alloc,

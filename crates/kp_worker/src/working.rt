@@ -32,7 +32,7 @@ pub fn serve_node<R: Wait, K: Kept, L: Lines, I: Inbox<K::Mail>, C: Clock, P: Pa
 ) -> NodeEnd
     requires { IsNodeSeatOf (λ s. K.life s.kept) node.now seat.old }
     ensures seat { IsNodeSeatOf (λ s. K.life s.kept) node.now seat.new }
-    ensures tells { CallTells (L.sees lines.old) (L.sees lines.new) (I.taken inbox.old) (I.taken inbox.new) (C.may clock.now) K.Mail.receiver seat.old seat.new result }
+    ensures tells { CallTells (L.sees lines.old) (L.sees lines.new) (I.taken inbox.old) (I.taken inbox.new) (C.may clock.now) seat.old seat.new result }
 {
     for _ in rt.forever() {
         if node.stop.load(&mut seat.stop) {

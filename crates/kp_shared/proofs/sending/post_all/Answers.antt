@@ -5,7 +5,7 @@ use Rattle.kp_shared.proofs.MailsOf.{posts_thought}
 use Rattle.kp_shared.proofs.sending.post_all.Goals as goal
 
 pub loop-thought-init : goal.loop-thought-init
-loop-thought-init g c = record { next = tt; finite = tt; left = search rules; seats = c.requires.seats; posts = ([], search rules, posts_none g.M.Carried.receiver c.args.seats.now) }
+loop-thought-init g c = record { next = tt; finite = tt; left = search rules; seats = c.requires.seats; posts = ([], search rules, posts_none c.args.seats.now) }
 
 pub loop-thought-preserved : goal.loop-thought-preserved
 loop-thought-preserved g c = let p = c.loop-thought.invariant.posts in
@@ -17,6 +17,6 @@ loop-thought-preserved g c = let p = c.loop-thought.invariant.posts in
       posts = (
         p.0 ++ c.in-Some.thought ∷ [],
         append_assoc p.0 (c.in-Some.thought ∷ []) (into_iter_items c.next.new.self) ∙ ap (λ l. p.0 ++ l) (sym step) ∙ p.1,
-        posts_thought g.M.Carried.receiver p.0 c.in-Some.thought c.args.seats.now c.loop-thought.seats c.post_thought.new.seats p.2 c.post_thought.ensures.posts,
+        posts_thought p.0 c.in-Some.thought c.args.seats.now c.loop-thought.seats c.post_thought.new.seats p.2 c.post_thought.ensures.posts,
       );
     }

@@ -6,7 +6,7 @@ use Rattle.kp_worker.proofs.Released.{posts_note, releases_more, releases_none, 
 use Rattle.kp_worker.proofs.releasing.release.Goals as goal
 
 pub loop-note-init : goal.loop-note-init
-loop-note-init g c = record { next = tt; finite = tt; left = search rules; seats = c.requires.seats; all = ([], search rules, releases_none (g.L.Lines.sees c.args.lines.now), posts_none g.M.Carried.receiver c.args.seats.now) }
+loop-note-init g c = record { next = tt; finite = tt; left = search rules; seats = c.requires.seats; all = ([], search rules, releases_none (g.L.Lines.sees c.args.lines.now), posts_none c.args.seats.now) }
 
 pub release_one-requires-clause-waits : goal.release_one-requires-clause-waits
 release_one-requires-clause-waits g c = let p = c.loop-note.invariant.all in
@@ -29,6 +29,6 @@ loop-note-preserved g c = let p = c.loop-note.invariant.all in
         p.0 ++ c.in-Some.note ∷ [],
         append_assoc p.0 (c.in-Some.note ∷ []) (into_iter_items c.next.new.self) ∙ ap (λ l. p.0 ++ l) (sym next) ∙ p.1,
         releases_more (g.L.Lines.sees c.args.lines.now) (g.L.Lines.sees c.loop-note.lines) (g.L.Lines.sees c.release_one.new.lines) p.0 c.in-Some.note p.2 c.release_one.ensures.releases,
-        posts_note g.M.Carried.receiver p.0 c.in-Some.note c.args.seats.now c.loop-note.seats c.release_one.new.seats p.3 c.release_one.ensures.posts,
+        posts_note p.0 c.in-Some.note c.args.seats.now c.loop-note.seats c.release_one.new.seats p.3 c.release_one.ensures.posts,
       );
     }

@@ -12,5 +12,5 @@ invariant-loop-note g l = record {
   finite : (goal.iterator-loop-note g).is_finite l.note-iterator;
   left : into_iter_len l.note-iterator ≡ length (into_iter_items l.note-iterator);
   seats : HasSeats l.links l.seats;
-  all : (done : List (Note _)) × (done ++ into_iter_items l.note-iterator ≡ l.fn.notes.items) × Releases (g.L.Lines.sees l.fn.lines) (g.L.Lines.sees l.lines) done × Posts g.M.Carried.receiver (mails done) l.fn.seats l.seats;
+  all : (done : List (Note _)) × (done ++ into_iter_items l.note-iterator ≡ l.fn.notes.items) × Releases (g.L.Lines.sees l.fn.lines) (g.L.Lines.sees l.lines) done × Posts (mails done) l.fn.seats l.seats;
 }

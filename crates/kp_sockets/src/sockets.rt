@@ -12,7 +12,8 @@ use std::alloc::Global;
 use std::sync::Wait;
 
 /// The connections of a node over sockets, at one reactor. A connection of which a piece was taken is told of again where more has
-/// come; one to which nothing goes out any more, and one that is over, is told of too.
+/// come; one that is over is told of once nothing is kept for it. The socket of one to which nothing
+/// goes out any more is shut down, and it is told of.
 #[derive(Drop)]
 pub struct Sockets<D> {
     tended: Tended<SocketPort, Nothing, Waking<D>>,
@@ -46,13 +47,13 @@ fn tell_again<D: Draw>(table: &SocketTable, wakes: &mut Waking<D>, conn: u64)
     }
 }
 
-// Has a connection be told of again, where nothing goes out to it any more.
-fn tell_where_ended<D: Draw>(table: &SocketTable, wakes: &mut Waking<D>, conn: u64)
+// Shuts the socket of a connection down to which nothing goes out any more, so that the connection is told of.
+fn shut_where_ended<D: Draw>(table: &SocketTable, wakes: &mut Waking<D>, conn: u64)
     ensures { wakes.new.faults ≡ wakes.old.faults }
 {
     if let Some(port) = table.port(conn) {
         if port.has_end() {
-            wakes.again(port);
+            wakes.shut(port);
         }
     }
 }
@@ -96,7 +97,7 @@ impl<D: Draw> Lines for Sockets<D> {
 
     fn hand(&mut self, conn: u64, bytes: &[u8]) {
         self.tended.hand(conn, bytes);
-        tell_where_ended(&self.tended.table, &mut self.tended.wakes, conn);
+        shut_where_ended(&self.tended.table, &mut self.tended.wakes, conn);
     }
 
     fn admit(&mut self, conn: u64) {

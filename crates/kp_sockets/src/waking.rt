@@ -169,6 +169,13 @@ impl<D: Draw> Waking<D> {
         let _ = self.reactor.again(port.token(), port.socket());
     }
 
+    /// Shuts the socket of a connection down, so that it is told of.
+    pub fn shut(&mut self, port: &SocketPort)
+        ensures { self.new.faults ≡ self.old.faults }
+    {
+        let _ = self.reactor.shut(port.token(), port.socket());
+    }
+
     /// The connection has this number from now on.
     pub fn name(&mut self, port: &SocketPort, conn: u64)
         ensures { self.new.faults ≡ self.old.faults }

@@ -6,7 +6,7 @@ ghost use Rattle.kp_sockets.specs.Pieces.{Hears, IsHeard};
 use kp_io::{Stream, Took};
 use kp_model::Bytes;
 use kp_outlet::ReadySink;
-use kp_reactor::Line;
+use kp_reactor::{Line, LineEnd};
 use kp_worker::Heard;
 use std::alloc::Global;
 
@@ -38,6 +38,6 @@ pub fn take_piece<R: Stream, W: ReadySink>(alloc: Global, line: &mut Line<R, W>)
         Ok(Took::Bytes(count)) => heard_bytes(alloc, &room[..count]),
         Ok(Took::Later) => Heard::Later,
         Ok(Took::End) => Heard::End,
-        Err(_) => Heard::Fault,
+        Err(LineEnd::Stream | LineEnd::Outlet(_)) => Heard::Fault,
     }
 }

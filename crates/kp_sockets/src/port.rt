@@ -1,6 +1,7 @@
 // A connection of a node over a socket.
-ghost use Rattle.std.specs.Prelude.{◌≡◌, [], false, not, ◌||◌, is_some};
-ghost use Rattle.kp_outlet.specs.Outlets.{has_rest};
+ghost use Rattle.std.specs.Prelude.{◌≡◌, [], None, false, not, ◌||◌, is_some, IfOk};
+ghost use Rattle.std.specs.Arc.{arc_value};
+ghost use Rattle.kp_outlet.specs.Outlets.{has_rest, kept};
 
 use crate::piece::take_piece;
 use kp_lines::{Past, Port};
@@ -24,7 +25,10 @@ pub struct Nothing;
 
 impl SocketPort {
     /// A connection that a reactor took in.
-    pub fn new(alloc: Global, arrival: Arrival) -> Result<SocketPort, AllocError> {
+    pub fn new(alloc: Global, arrival: Arrival) -> Result<SocketPort, AllocError>
+        ensures port { IfOk result (λ p. (p.token ≡ arrival.token) × (arc_value p.line.stream.socket ≡ arrival.socket)) }
+        ensures new { IfOk result (λ p. (p.line.outlet.end ≡ None) × (kept p.line.outlet ≡ [])) }
+    {
         let Arrival { token, socket } = arrival;
         let (stream, sink) = halves(alloc, socket)?;
         Ok(SocketPort {
@@ -42,7 +46,9 @@ impl SocketPort {
     }
 
     /// Lends the socket.
-    pub fn socket(&self) -> &TcpStream {
+    pub fn socket(&self) -> &TcpStream
+        ensures { result.now ≡ arc_value self.now.line.stream.socket }
+    {
         self.line.stream().socket()
     }
 

@@ -1,7 +1,9 @@
 // What waits for the connections of a node.
-ghost use Rattle.std.specs.Prelude.{◌≡◌, ◌≤◌, ◌+◌, [], ℕ, length};
+ghost use Rattle.std.specs.Prelude.{◌≡◌, ◌≤◌, ◌+◌, [], ℕ, None, false, nat_eq, length};
+ghost use Rattle.std.specs.HashMap.{get};
 ghost use Rattle.kp_io.specs.Faults.{HasCause};
 ghost use Rattle.kp_lines.specs.Tables.{state_at};
+ghost use Rattle.kp_reactor.specs.Naming.{OthersStay, renamed};
 ghost use Rattle.kp_sockets.specs.Pieces.{one_where};
 
 use crate::port::{Nothing, SocketPort};
@@ -100,6 +102,8 @@ impl<D: Draw> Waking<D> {
         ensures faults { self.new.faults ≡ self.old.faults }
         ensures state { (c : ℕ) → state_at table.new.slots c ≡ state_at table.old.slots c }
         ensures more { length table.old.fresh.items + one_where result ≤ length table.new.fresh.items }
+        ensures gone { result ≡ false → get nat_eq self.new.reactor.tokens.names arrival.token ≡ None }
+        ensures others { OthersStay self.old.reactor.tokens.names self.new.reactor.tokens.names arrival.token }
     {
         let token = arrival.token;
         if let Ok(port) = SocketPort::new(self.alloc, arrival) {
@@ -164,21 +168,25 @@ impl<D: Draw> Waking<D> {
 
     /// Tells of this connection again where it is ready.
     pub fn again(&mut self, port: &SocketPort)
-        ensures { self.new.faults ≡ self.old.faults }
+        ensures faults { self.new.faults ≡ self.old.faults }
+        ensures tokens { self.new.reactor.tokens ≡ self.old.reactor.tokens }
     {
         let _ = self.reactor.again(port.token(), port.socket());
     }
 
     /// Shuts the socket of a connection down, so that it is told of.
     pub fn shut(&mut self, port: &SocketPort)
-        ensures { self.new.faults ≡ self.old.faults }
+        ensures faults { self.new.faults ≡ self.old.faults }
+        ensures tokens { self.new.reactor.tokens ≡ self.old.reactor.tokens }
     {
         let _ = self.reactor.shut(port.token(), port.socket());
     }
 
     /// The connection has this number from now on.
     pub fn name(&mut self, port: &SocketPort, conn: u64)
-        ensures { self.new.faults ≡ self.old.faults }
+        ensures faults { self.new.faults ≡ self.old.faults }
+        ensures at { get nat_eq self.new.reactor.tokens.names port.now.token ≡ renamed (get nat_eq self.old.reactor.tokens.names port.now.token) conn }
+        ensures others { OthersStay self.old.reactor.tokens.names self.new.reactor.tokens.names port.now.token }
     {
         self.reactor.name(port.token(), conn);
         self.again(port);
@@ -186,7 +194,9 @@ impl<D: Draw> Waking<D> {
 
     /// The connection is let go.
     pub fn forget(&mut self, port: &SocketPort)
-        ensures { self.new.faults ≡ self.old.faults }
+        ensures faults { self.new.faults ≡ self.old.faults }
+        ensures at { get nat_eq self.new.reactor.tokens.names port.now.token ≡ None }
+        ensures others { OthersStay self.old.reactor.tokens.names self.new.reactor.tokens.names port.now.token }
     {
         self.reactor.close(port.token());
     }

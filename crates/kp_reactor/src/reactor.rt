@@ -284,4 +284,13 @@ impl Reactor {
         self.faults = self.faults.saturating_add(1);
         Err(Failed)
     }
+
+    /// Shuts the socket of a line down, so that it is told of, also where it is ready for neither way.
+    pub fn shut(&mut self, token: usize, socket: &TcpStream) -> Result<(), Failed>
+        ensures tokens { self.new.tokens ≡ self.old.tokens }
+        ensures cause { HasCause self.old.faults self.new.faults result }
+    {
+        let _ = socket.shutdown(Shutdown::Both);
+        self.again(token, socket)
+    }
 }
